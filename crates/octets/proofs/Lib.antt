@@ -1,0 +1,3 @@
+pub mod Splice
+pub mod Little
+pub mod Bytes

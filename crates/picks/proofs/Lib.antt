@@ -1,0 +1,4 @@
+pub mod Picks
+pub mod First
+pub mod Fold
+pub mod Shift

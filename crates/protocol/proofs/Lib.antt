@@ -1,0 +1,4 @@
+pub mod Coding
+pub mod SequenceHeader
+pub mod Flags
+pub mod Command

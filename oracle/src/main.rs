@@ -1,0 +1,74 @@
+//! The Rust of powerlink-rs as an oracle: its files are taken in unchanged, by
+//! path, and run on scripts of items. README.md says how.
+
+extern crate alloc;
+
+mod codec;
+mod hal;
+mod rng;
+mod sdo;
+mod stream;
+
+// Stands in for the repository's lib.rs, which is not at hand: the files taken
+// in name the error by this path too.
+pub use hal::PowerlinkError;
+
+use std::io::{self, BufReader, BufWriter, Write};
+use std::process::ExitCode;
+
+use stream::Fault;
+
+const USAGE: &str = "usage: oracle codec-all | codec-items SEED COUNT | codec-sample | \
+                     codec < ITEMS | short-buffer";
+
+const BLOCK: usize = 1 << 16;
+
+fn main() -> ExitCode {
+    let words: Vec<String> = std::env::args_os()
+        .skip(1)
+        .map(|word| word.to_string_lossy().into_owned())
+        .collect();
+    let words: Vec<&str> = words.iter().map(String::as_str).collect();
+
+    let mut out = BufWriter::with_capacity(BLOCK, io::stdout().lock());
+    let result = match words[..] {
+        ["codec-all"] => codec::all(&mut out).map_err(failed),
+        ["codec-items", seed, count] => match (seed.parse(), count.parse()) {
+            (Ok(seed), Ok(count)) => codec::random(seed, count, &mut out).map_err(failed),
+            _ => return usage(),
+        },
+        ["codec-sample"] => codec::sample(&mut out).map_err(failed),
+        ["codec"] => {
+            let script = BufReader::with_capacity(BLOCK, io::stdin().lock());
+            codec::run(script, &mut out).map_err(stopped)
+        }
+        ["short-buffer"] => codec::short_buffer(&mut out).map_err(failed),
+        _ => return usage(),
+    };
+    // What came before a fault is written all the same.
+    let result = result.and(out.flush().map_err(failed));
+    match result {
+        Ok(()) => ExitCode::SUCCESS,
+        Err(line) => {
+            eprintln!("oracle: {line}");
+            ExitCode::FAILURE
+        }
+    }
+}
+
+fn usage() -> ExitCode {
+    eprintln!("{USAGE}");
+    ExitCode::from(2)
+}
+
+fn failed(error: io::Error) -> String {
+    error.to_string()
+}
+
+fn stopped((at, fault): (u64, Fault)) -> String {
+    match fault {
+        Fault::Cut => format!("the item at byte {at} is cut short"),
+        Fault::Unknown(why) => format!("the item at byte {at} is unknown: {why}"),
+        Fault::Io(error) => format!("at byte {at}: {error}"),
+    }
+}
