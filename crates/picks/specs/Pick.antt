@@ -22,3 +22,17 @@ fold f s (x ∷ xs) = fold f (f s x) xs
 unfoldable pub checks : {S A : Type 0} → (S → A → Bool) → (S → A → S) → S → List A → Bool
 checks ok next s [] = true
 checks ok next s (x ∷ xs) = ok s x && checks ok next (next s x) xs
+
+-- every element passes the test; how many do
+unfoldable pub every : {A : Type 0} → (A → Bool) → List A → Bool
+every f [] = true
+every f (x ∷ xs) = f x && every f xs
+
+unfoldable pub count : {A : Type 0} → (A → Bool) → List A → ℕ
+count f [] = 0
+count f (x ∷ xs) = pick (f x) (suc (count f xs)) (count f xs)
+
+-- the elements that pass the test, in their order
+unfoldable pub keep : {A : Type 0} → (A → Bool) → List A → List A
+keep f [] = []
+keep f (x ∷ xs) = pick (f x) (x ∷ keep f xs) (keep f xs)

@@ -1,3 +1,14 @@
 pub mod Coding
 pub mod SequenceHeader
 pub mod Command
+pub mod Constants
+pub mod DictionaryImage
+pub mod TransferRecord
+pub mod ConnectionRecord
+pub mod ConnectionTable
+pub mod Calls
+pub mod Request
+pub mod Tick
+pub mod DeadlineQuery
+pub mod BenchCard
+pub mod Series

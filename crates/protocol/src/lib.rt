@@ -95,3 +95,102 @@ pub enum CommandRead {
     BufferTooShort,
     Undecodable,
 }
+
+// A client. A MAC address and an IP address are numbers, the first byte on the wire the most significant.
+pub enum SdoClientInfo {
+    Asnd { node: u8, mac: u64 }, // source_node_id, source_mac
+    Udp { ip: u32, port: u16 }, // source_ip, source_port
+}
+
+// The time at which a transfer is due: the Rust's Option<u64>.
+pub enum Deadline {
+    NoDeadline,
+    At(u64),
+}
+
+// A transfer, held in the state that runs it. Its bytes are in the client's share of the area.
+pub struct SdoTransferState {
+    pub transaction: u8, // transaction_id
+    pub total: u32, // total_size
+    pub offset: u32, // offset
+    pub index: u16, // index
+    pub sub: u8, // sub_index
+    pub deadline: Deadline, // deadline_us
+    pub retries: u32, // retransmissions_left
+    pub stored: bool, // last_sent_segment is there: the bytes before offset hold it
+}
+
+pub enum SdoServerState {
+    Closed,
+    Opening,
+    Established,
+    SegmentedDownload(SdoTransferState),
+    SegmentedUpload(SdoTransferState),
+}
+
+// A record of the connection table: the Rust's SdoSequenceHandler with its place in the map.
+pub struct Connection {
+    pub used: bool,
+    pub client: SdoClientInfo, // client_info
+    pub area: u8, // the number of its share of the area
+    pub send: u8, // send_sequence_number
+    pub receive: u8, // last_received_sequence_number
+    pub state: SdoServerState,
+}
+
+// An entry of the dictionary image.
+pub struct Entry {
+    pub place: usize, // where its twelve bytes begin
+    pub index: u16,
+    pub sub: u8,
+    pub flags: u8,
+    pub body: u32,
+    pub capacity: u16,
+    pub length: u16,
+}
+
+// What looking an object up finds.
+pub enum Lookup {
+    NoObject,
+    NoSubIndex,
+    Found(Entry),
+}
+
+// What a read of a lookup is, and what a write would be: the entry, or an abort code.
+pub enum Access {
+    Denied(u32),
+    Granted(Entry),
+}
+
+// Why a call is refused: document 01's numbers 1 to 9 in order.
+pub enum Refusal {
+    Lent,
+    Image,
+    Table,
+    Clock,
+    Short,
+    Long,
+    Full,
+    Sequence,
+    EmptyCommand,
+}
+
+// What handle_request answers: a refusal, or the client and the answer's length.
+pub enum Outcome {
+    Refused(Refusal),
+    Answered(SdoClientInfo, usize),
+}
+
+// What tick answers: a refusal, nobody, or the client and the answer's length.
+pub enum Ticked {
+    Refused(Refusal),
+    Nothing,
+    Answered(SdoClientInfo, usize),
+}
+
+// What next_action_time answers: a refusal, no deadline, or the earliest.
+pub enum NextAction {
+    Refused(Refusal),
+    Nothing,
+    At(u64),
+}
