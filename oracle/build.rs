@@ -11,7 +11,15 @@ const DEFAULT: &str = "../../shared/docs/src";
 const SDO: &str = "crates/powerlink-rs/src/sdo";
 
 /// The files taken in, seen from `SDO`.
-const FILES: [&str; 2] = ["sequence.rs", "command/base.rs"];
+const FILES: [&str; 7] = [
+    "sequence.rs",
+    "command/base.rs",
+    "command/handler.rs",
+    "state.rs",
+    "handlers.rs",
+    "sequence_handler.rs",
+    "server.rs",
+];
 
 fn main() {
     println!("cargo::rerun-if-changed=build.rs");

@@ -8,6 +8,13 @@ pub enum PowerlinkError {
     BufferTooShort,
     InvalidEnumValue,
     SdoInvalidCommandPayload,
+    SdoSequenceError(&'static str),
+    InternalError(&'static str),
+    TypeMismatch,
+    StorageError(&'static str),
+    /// Matched in state.rs; the dictionary stand-in never gives it.
+    #[allow(dead_code)]
+    ValidationError(&'static str),
 }
 
 /// The Rust turns only slices of a fixed, checked length into arrays, so this

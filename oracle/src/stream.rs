@@ -60,6 +60,10 @@ impl<R: Read> Fields<R> {
         Ok(u32::from_le_bytes(self.array()?))
     }
 
+    pub fn u64(&mut self) -> Result<u64, Fault> {
+        Ok(u64::from_le_bytes(self.array()?))
+    }
+
     /// A byte that is at most `limit`.
     pub fn u8_to(&mut self, limit: u8, name: &'static str) -> Result<u8, Fault> {
         let value = self.u8()?;
@@ -80,6 +84,16 @@ impl<R: Read> Fields<R> {
         }
     }
 
+    /// A u32 that is at most `limit`.
+    pub fn u32_to(&mut self, limit: usize, name: &'static str) -> Result<usize, Fault> {
+        let value = self.u32()? as usize;
+        if value > limit {
+            Err(Fault::Unknown(name))
+        } else {
+            Ok(value)
+        }
+    }
+
     pub fn flag(&mut self, name: &'static str) -> Result<bool, Fault> {
         Ok(self.u8_to(1, name)? == 1)
     }
@@ -91,7 +105,7 @@ impl<R: Read> Fields<R> {
         Ok(bytes)
     }
 
-    fn array<const N: usize>(&mut self) -> Result<[u8; N], Fault> {
+    pub fn array<const N: usize>(&mut self) -> Result<[u8; N], Fault> {
         let mut bytes = [0; N];
         self.source.read_exact(&mut bytes)?;
         self.offset += N as u64;

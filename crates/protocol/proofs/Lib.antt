@@ -17,4 +17,7 @@ pub mod BenchCard
 pub mod Requests
 pub mod Ticks
 pub mod Spelling
+pub mod StaysSound
 pub mod Series
+pub mod InOrder
+pub mod Examples

@@ -17,7 +17,8 @@ use Rattle.protocol.specs.ConnectionTable.{soundTable, placeOf, isKnown,
 use Rattle.protocol.specs.Calls.{Verdict, refuse, accept, verdict, frame}
 use Rattle.protocol.specs.Request.{requestTests, dropped, answerWith, requestServed, accepted, onVerdict, requestOf}
 use Rattle.protocol.specs.Tick.{tickTests, dropsClosed, tickTold, ticked, onTickVerdict, tickOf}
-use Rattle.protocol.specs.Series.{Call, request, tick, query, Server, start, heldBy, Sent, sentTo, sentTick, requestDone, tickDone, step, run, Frame, decodes, decodeSent, framesOf, AllDecode, AllSpell, Claim}
+use Rattle.protocol.specs.Series.{Call, request, tick, query, Server, start, heldBy, Sent, sentTo, sentTick, requestDone, tickDone, step, run}
+use Rattle.protocol.specs.EveryUpload.{Frame, decodes, decodeSent, framesOf, AllDecode, AllSpell, Claim}
 use Rattle.protocol.proofs.ConnectionTable.{same-client-eq, same-client-refl, same-client-sym, join-own, release-kept, release-gone, release-unknown}
 use Rattle.protocol.proofs.ServeSound.{Formed, Steps}
 use Rattle.protocol.proofs.Coding.{value-one, refused-none}

@@ -18,7 +18,8 @@ use Rattle.protocol.specs.declared.Connection.{Connection}
 use Rattle.protocol.specs.Constants.{PIECE}
 use Rattle.protocol.specs.Command.{Command, isInitiate}
 use Rattle.protocol.specs.TransferRecord.{piece, pieceLength}
-use Rattle.protocol.specs.Series.{Frame, isRead, isPiece, isRepeat, isKept, isComplete, Spelled, spell, lastKept, Spells}
+use Rattle.protocol.specs.Series.{isRead}
+use Rattle.protocol.specs.EveryUpload.{Frame, isPiece, isRepeat, isKept, isComplete, Spelled, spell, lastKept, Spells}
 use Rattle.protocol.proofs.Pieces.{piece-initiate, piece-segment, piece-joins, piece-agrees}
 use Rattle.protocol.proofs.RecordSound.{piece-some}
 use Rattle.protocol.proofs.Uploads.{Up, Stays, Begins, Advances, Ends, Kind, quiet, begins, advances, finishes, closed-none}

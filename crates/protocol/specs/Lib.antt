@@ -12,3 +12,5 @@ pub mod Tick
 pub mod DeadlineQuery
 pub mod BenchCard
 pub mod Series
+pub mod EveryUpload
+pub mod Examples

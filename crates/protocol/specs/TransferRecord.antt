@@ -1,4 +1,4 @@
--- Document 01, 'Transfer connection.
+-- Document 01, 'Transfer record'.
 use Prim.Native.Nat.{ℕ, _+_, _*_, _-_, min}
 use mathlib.Core.Bool.{Bool, true, false}
 use mathlib.Core.List.{List, [], _++_}
