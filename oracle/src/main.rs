@@ -4,10 +4,18 @@
 extern crate alloc;
 
 mod codec;
+mod frame;
 mod hal;
+mod log;
+mod od;
+mod replay;
 mod rng;
 mod sdo;
 mod stream;
+mod types;
+
+#[cfg(not(feature = "sdo-udp"))]
+compile_error!("the scripts have clients over UDP: build with the feature sdo-udp");
 
 // Stands in for the repository's lib.rs, which is not at hand: the files taken
 // in name the error by this path too.
@@ -41,6 +49,10 @@ fn main() -> ExitCode {
         ["codec"] => {
             let script = BufReader::with_capacity(BLOCK, io::stdin().lock());
             codec::run(script, &mut out).map_err(stopped)
+        }
+        ["replay"] => {
+            let script = BufReader::with_capacity(BLOCK, io::stdin().lock());
+            replay::run(script, &mut out).map_err(stopped)
         }
         ["short-buffer"] => codec::short_buffer(&mut out).map_err(failed),
         _ => return usage(),

@@ -43,6 +43,25 @@ impl Rng {
         from[self.within(0, from.len() - 1)]
     }
 
+    /// One of `from`, each as often as its weight says.
+    pub fn weighted<T: Copy>(&mut self, from: &[(usize, T)]) -> T {
+        let total = from.iter().map(|(weight, _)| weight).sum();
+        let mut left = self.within(1, total);
+        for &(weight, value) in from {
+            if left <= weight {
+                return value;
+            }
+            left -= weight;
+        }
+        unreachable!("the weights add up to their sum")
+    }
+
+    pub fn shuffle<T>(&mut self, values: &mut [T]) {
+        for last in (1..values.len()).rev() {
+            values.swap(last, self.within(0, last));
+        }
+    }
+
     pub fn bytes(&mut self, count: usize) -> Vec<u8> {
         (0..count).map(|_| self.u8()).collect()
     }

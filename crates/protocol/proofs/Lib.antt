@@ -13,11 +13,10 @@ pub mod Uploads
 pub mod ServeUploads
 pub mod Frames
 pub mod Calls
-pub mod BenchCard
 pub mod Requests
 pub mod Ticks
 pub mod Spelling
 pub mod StaysSound
 pub mod Series
 pub mod InOrder
-pub mod Examples
+pub mod Vectors

@@ -13,4 +13,3 @@ pub mod DeadlineQuery
 pub mod BenchCard
 pub mod Series
 pub mod EveryUpload
-pub mod Examples

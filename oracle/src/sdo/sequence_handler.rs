@@ -1,5 +1,6 @@
 //! crates/powerlink-rs/src/sdo/sequence_handler.rs, unchanged; beside it, the
 //! making of a handler in any state.
+#![allow(dead_code, unused_assignments)]
 
 use crate::log;
 

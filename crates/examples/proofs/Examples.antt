@@ -1,0 +1,28 @@
+-- The closed series, by computation: demand 3 speaks of uploads that there are.
+use mathlib.Core.Path.{_≡_, refl}
+use mathlib.Core.Bool.{Bool, true, _&&_}
+use Rattle.picks.specs.Pick.{pick, first, fold, every, count, keep}
+use Rattle.octets.specs.Octets.{le, leBytes, splice}
+use Rattle.protocol.specs.BenchCard.{same, sentBy, tickSentBy, play, plays, uploads, valueFrom, onEmpty, inState, test, downloading, uploading, rows}
+use Rattle.protocol.specs.Calls.{verdict, frame}
+use Rattle.protocol.specs.Command.{flagPlaces, segmentationOf, knownIds, idAmong, idOf, fixedHeader, encodeCommand, decodeWith, decodeId, decodeCommand}
+use Rattle.protocol.specs.ConnectionRecord.{beforeIn, beforeStep, closedStep, openingStep, acknowledge, laterStep, stepIn, sequenceStep, dispatch, uploadCommand, commandIn, commandLayer, settle, answered, emptyIn, emptyFrame, afterStep, onStep, onBefore, onHeader, serve}
+use Rattle.protocol.specs.ConnectionTable.{emptyTable, ordered, areasOnce, soundUpload, soundDownload, soundRecord, soundTable, placeOf, update, insert, join, release, chosen, tickUpload, tickIn, tickRecord}
+use Rattle.protocol.specs.Constants.{PIECE, SHARE, RECORDS, AREA, ANSWER-MIN, REQUEST-MAX, FIRST-MAX, CLOCK-MAX, CAPACITY-MAX, IMAGE-MAX, TIMEOUT-INDEX, RETRIES-INDEX, DEFAULT-TIMEOUT, DEFAULT-RETRIES}
+use Rattle.protocol.specs.DictionaryImage.{entryAt, entriesFrom, entries, soundEntries, soundImage, lookupIn, lookup, parameterOf, timeoutOf, retriesOf, writable, writeImage}
+use Rattle.protocol.specs.EveryUpload.{decodes, framesOf, spell}
+use Rattle.examples.specs.Examples.{spelledBy, isSpelled, old, new, story, storyTold, overwritten, storyOverwrites, acknowledged, finishes, uploads as uploads-examples}
+use Rattle.protocol.specs.Request.{requestTests, answerWith, requestServed, accepted, onVerdict, requestOf}
+use Rattle.protocol.specs.SequenceHeader.{receiveMarkOf, sendMarkOf, encodeHeader, decodeHeader, next}
+use Rattle.protocol.specs.Series.{heldCommand, sentTo, sentTick, step, run}
+use Rattle.protocol.specs.Tick.{tickTests, tickTold, ticked, onTickVerdict, tickOf}
+use Rattle.protocol.specs.TransferRecord.{piece, deadlineAfter, advance, readValue, readEntry, readByIndex, writeEntry, writeObject, writeExpedited, writeInitiate, writeSegment, writeComplete, downloadStep, writeData, maxSegmentSize}
+
+-- the overwritten object's upload spells the old value, the write in its middle changed the object, and uploads of 1,453, 2,904, 4,096 and 8,192 bytes finish
+unfoldable pub examples : Bool
+unfolding pick first fold every count keep le leBytes splice same sentBy tickSentBy play plays uploads valueFrom onEmpty inState test downloading uploading rows verdict frame flagPlaces segmentationOf knownIds idAmong idOf fixedHeader encodeCommand decodeWith decodeId decodeCommand beforeIn beforeStep closedStep openingStep acknowledge laterStep stepIn sequenceStep dispatch uploadCommand commandIn commandLayer settle answered emptyIn emptyFrame afterStep onStep onBefore onHeader serve emptyTable ordered areasOnce soundUpload soundDownload soundRecord soundTable placeOf update insert join release chosen tickUpload tickIn tickRecord PIECE SHARE RECORDS AREA ANSWER-MIN REQUEST-MAX FIRST-MAX CLOCK-MAX CAPACITY-MAX IMAGE-MAX TIMEOUT-INDEX RETRIES-INDEX DEFAULT-TIMEOUT DEFAULT-RETRIES entryAt entriesFrom entries soundEntries soundImage lookupIn lookup parameterOf timeoutOf retriesOf writable writeImage decodes framesOf spell spelledBy isSpelled old new story storyTold overwritten storyOverwrites acknowledged finishes uploads-examples requestTests answerWith requestServed accepted onVerdict requestOf receiveMarkOf sendMarkOf encodeHeader decodeHeader next heldCommand sentTo sentTick step run tickTests tickTold ticked onTickVerdict tickOf piece deadlineAfter advance readValue readEntry readByIndex writeEntry writeObject writeExpedited writeInitiate writeSegment writeComplete downloadStep writeData maxSegmentSize
+examples = storyTold && storyOverwrites && every finishes uploads-examples
+
+pub examples-hold : examples ≡ true
+unfolding examples
+examples-hold = refl
