@@ -27,7 +27,9 @@ use std::process::ExitCode;
 use stream::Fault;
 
 const USAGE: &str = "usage: oracle codec-all | codec-items SEED COUNT | codec-sample | \
-                     codec < ITEMS | short-buffer";
+                     codec < ITEMS | short-buffer | \
+                     replay-script SEED COUNT one|series|tables|images|wild | replay-sample | \
+                     replay < SCRIPT";
 
 const BLOCK: usize = 1 << 16;
 
@@ -50,6 +52,16 @@ fn main() -> ExitCode {
             let script = BufReader::with_capacity(BLOCK, io::stdin().lock());
             codec::run(script, &mut out).map_err(stopped)
         }
+        ["replay-script", seed, count, profile] => {
+            let profile = replay::Profile::named(profile);
+            match (seed.parse(), count.parse(), profile) {
+                (Ok(seed), Ok(count), Some(profile)) => {
+                    replay::script(seed, count, profile, &mut out).map_err(failed)
+                }
+                _ => return usage(),
+            }
+        }
+        ["replay-sample"] => replay::sample(&mut out).map_err(failed),
         ["replay"] => {
             let script = BufReader::with_capacity(BLOCK, io::stdin().lock());
             replay::run(script, &mut out).map_err(stopped)

@@ -4,6 +4,7 @@ pub mod Flags
 pub mod Command
 pub mod Lists
 pub mod DictionaryImage
+pub mod Deadlines
 pub mod Pieces
 pub mod ConnectionTable
 pub mod RecordSound

@@ -43,9 +43,9 @@ pub piece-narrow : PIECE < 65536
 unfolding PIECE
 piece-narrow = lit< tt
 
-pub piece-some : 0 < PIECE
+pub piece-positive : 0 < PIECE
 unfolding PIECE
-piece-some = lit< tt
+piece-positive = lit< tt
 
 pub piece-code : 4 ≤ PIECE
 unfolding PIECE
@@ -133,7 +133,7 @@ after-sound t image clock s l =
     let m : t .offset + pieceLength PIECE (t .total) (t .offset) < t .total = leb-false _ _ l in
     let n : pieceLength PIECE (t .total) (t .offset) ≡ PIECE = omega (arith, s .left) in
     let f : (t .offset + pieceLength PIECE (t .total) (t .offset)) % PIECE ≡ 0 = rw n (piece-multiple PIECE (t .offset) (s .multiple)) in
-    both (both (both (both (both (lt-ltb _ _ (s .above)) (le-leb _ _ (s .fits))) (lt-ltb 0 (t .offset + pieceLength PIECE (t .total) (t .offset)) (omega (arith, piece-some)))) (lt-ltb _ _ m)) (eq-eqb _ _ f)) refl
+    both (both (both (both (both (lt-ltb _ _ (s .above)) (le-leb _ _ (s .fits))) (lt-ltb 0 (t .offset + pieceLength PIECE (t .total) (t .offset)) (omega (arith, piece-positive)))) (lt-ltb _ _ m)) (eq-eqb _ _ f)) refl
 
 -- the next piece of an upload
 module _ (c : Connection) (share image : List ℕ) (clock : ℕ) (sc : soundRecord c ≡ true) (ls : length share ≡ SHARE) (si : soundImage image ≡ true) where

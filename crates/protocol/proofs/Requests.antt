@@ -12,7 +12,7 @@ use Rattle.picks.specs.Pick.{pick}
 use Rattle.picks.proofs.Keep.{not-both, by-test}
 use Rattle.protocol.specs.declared.SdoClientInfo.{SdoClientInfo}
 use Rattle.protocol.specs.declared.Connection.{Connection}
-use Rattle.protocol.specs.Constants.{SHARE, RECORDS, AREA, ANSWER-MIN, REQUEST-MAX}
+use Rattle.protocol.specs.Constants.{SHARE, RECORDS, AREA, ANSWER-MIN, REQUEST-MAX, CLOCK-MAX}
 use Rattle.protocol.specs.DictionaryImage.{soundImage}
 use Rattle.protocol.specs.ConnectionRecord.{Served, serve}
 use Rattle.protocol.specs.ConnectionTable.{soundTable, soundRecord, holds, isKnown, recordOf, unusedOf, sameClient, join, update, shareOf, withShare}
@@ -30,6 +30,7 @@ pub record Accepted (client : SdoClientInfo) (clock : ℕ) (request image answer
   pub eight : length table ≡ RECORDS
   pub image-sound : soundImage image ≡ true
   pub table-sound : soundTable table ≡ true
+  pub timely : clock ≤ CLOCK-MAX
   pub some : 4 ≤ length request
   pub most : length request ≤ REQUEST-MAX
   pub seat : isKnown client table ≡ false → 0 < length (unusedOf table)
@@ -66,6 +67,7 @@ module _ (client : SdoClientInfo) (clock : ℕ) (request image answer : List ℕ
         eight = eqb-true _ _ (not-false _ (l .1));
         image-sound = not-false _ (h2 .0);
         table-sound = not-false _ (h3 .0);
+        timely = ltb-false _ _ (h4 .0);
         some = ltb-false _ _ (h5 .0);
         most = ltb-false _ _ (h6 .0);
         seat = free (isKnown client table) (length (unusedOf table)) (h7 .0);

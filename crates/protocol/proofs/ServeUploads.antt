@@ -63,7 +63,7 @@ kind-back c c' share held m d share' b (begins k) = begins k
 kind-back c c' share held m d share' b (advances k) = advances (record { transaction = k .transaction; total = k .total; offset = k .offset; was = b .up _ _ _ (k .was); more = k .more; command = k .command; same = k .same; up = k .up })
 kind-back c c' share held m d share' b (finishes k) = finishes (record { transaction = k .transaction; total = k .total; offset = k .offset; was = b .up _ _ _ (k .was); left = k .left; last = k .last; command = k .command; closed = k .closed })
 
--- the sequence step begins no upload and not-both asks for an acknowledgement
+-- the sequence step begins no upload and never asks for an acknowledgement
 pub record StepBack (c : Connection) (x : Stepped) : Type 0 where
   pub goes : (c' : Connection) (r : SequenceLayerHeader) → x ≡ stepped c' r → Back c c' × (eqb (sendMark (r .scon)) 3 ≡ false)
   pub fails : (c' : Connection) → x ≡ misfit c' → Back c c'
@@ -194,6 +194,11 @@ module _ (c : Connection) (share image : List ℕ) (clock : ℕ) (bytes : List �
       by-step (stepped c' r) e =
           let b = step-back c h .goes c' r e in
           serve-back c c' share (heldBy bytes image) _ (b .0) (after-kind c' share image clock h r (step-steps c h sc hs .goes c' r e .0 .sound) ls si (b .1) bytes)
+
+  -- "and changes nothing": a resend leaves record, share and image as they were, the retries among them
+  pub resend-changes-nothing : (h : SequenceLayerHeader) (y : Reply) → decodeHeader bytes ≡ value h → beforeStep c share h ≡ resends y → serve c share image clock bytes ≡ record { connection = c; share = share; image = image; said = value y }
+  unfolding serve onHeader onBefore
+  resend-changes-nothing h y e f = rw (e, f)
 
   on-before-kind : (h : SequenceLayerHeader) → h .send < 64 → ServeKind c share (heldBy bytes image) (onBefore c share image clock bytes h (beforeStep c share h))
   unfolding onBefore

@@ -21,7 +21,7 @@ use Rattle.protocol.specs.TransferRecord.{piece, pieceLength}
 use Rattle.protocol.specs.Series.{isRead}
 use Rattle.protocol.specs.EveryUpload.{Frame, isPiece, isRepeat, isKept, isComplete, Spelled, spell, lastKept, Spells}
 use Rattle.protocol.proofs.Pieces.{piece-initiate, piece-segment, piece-joins, piece-agrees}
-use Rattle.protocol.proofs.RecordSound.{piece-some}
+use Rattle.protocol.proofs.RecordSound.{piece-positive}
 use Rattle.protocol.proofs.Uploads.{Up, Stays, Begins, Advances, Ends, Kind, quiet, begins, advances, finishes, closed-none}
 use Rattle.protocol.proofs.ServeUploads.{Resent, same-transfer}
 
@@ -220,7 +220,7 @@ module _ (c : Connection) (share : List ℕ) (c' : Connection) (share' : List �
       kept = is-kept f (a .transaction) (a .total) (a .offset) share (a .command) m
 
       kind : f .command .header .segmentation ≡ Segment
-      kind = ap (λ (k : Command). k .header .segmentation) (a .command) ∙ middle-kind (a .transaction) (a .total) (a .offset) share (omega (arith, piece-some, run (a .transaction) (a .total) (a .offset) (a .was) .begun)) (a .more)
+      kind = ap (λ (k : Command). k .header .segmentation) (a .command) ∙ middle-kind (a .transaction) (a .total) (a .offset) share (omega (arith, piece-positive, run (a .transaction) (a .total) (a .offset) (a .was) .begun)) (a .more)
 
       whole : a .offset + pieceLength PIECE (a .total) (a .offset) ≡ a .offset + PIECE
       whole = let h = a .more in omega arith

@@ -99,7 +99,9 @@ impl ObjectDictionary {
         if entry.is_variable() {
             return None;
         }
-        Some(u32::from_le_bytes(entry.value(&self.image).try_into().ok()?))
+        Some(u32::from_le_bytes(
+            entry.value(&self.image).try_into().ok()?,
+        ))
     }
 
     /// Asked by the Rust only whether there is one.

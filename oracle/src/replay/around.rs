@@ -1,31 +1,18 @@
 //! The Rust server, and around it what the Rust has no notion of: area
-//! numbers, the area's bytes, and the commands outside the domain of
-//! comparison. Each goes by document 01's words.
+//! numbers and the area's bytes. Both go by document 01's words.
 
-use std::borrow::Cow;
 use std::collections::{BTreeMap, VecDeque};
 
-use super::area::{Area, SHARE};
-use super::record::{Record, State, Transfer};
+use super::area::Area;
+use super::dispatch::{LENGTH, check_stored, data_to_store, dispatched, within_domain};
+use super::record::Record;
+use super::state::{piece_before, record_state, rust_state, upload};
 use super::table::Table;
 use crate::PowerlinkError;
 use crate::od::ObjectDictionary;
-use crate::sdo::command::{CommandId, CommandLayerHeader, SdoCommand, Segmentation};
-use crate::sdo::sequence::{ReceiveConnState, SequenceLayerHeader};
 use crate::sdo::sequence_handler::SdoSequenceHandler;
 use crate::sdo::server::{SdoClientInfo, SdoServer};
-use crate::sdo::state::{SdoServerState, SdoTransferState};
 use crate::sdo::transport::SdoResponseData;
-
-/// The longest piece (MAX_EXPEDITED_PAYLOAD in the Rust).
-pub const PIECE: usize = 1_452;
-
-/// Where a request's command id and its total stand.
-const ID_AT: usize = 7;
-const TOTAL_AT: usize = 12;
-
-const LENGTH: u32 = 0x0607_0010;
-const OUT_OF_MEMORY: u32 = 0x0504_0005;
 
 pub struct Around {
     server: SdoServer,
@@ -166,183 +153,5 @@ impl Around {
                 assert_eq!(stored, &piece_before(&record, share));
             }
         }
-    }
-}
-
-fn upload(handler: &SdoSequenceHandler) -> Option<&SdoTransferState> {
-    match handler.state() {
-        SdoServerState::SegmentedUpload(transfer) => Some(transfer),
-        _ => None,
-    }
-}
-
-/// The command with which a request reaches dispatch: not on receive mark 3,
-/// past the sequence step, decodable, without the aborted bit, no upload
-/// running.
-fn dispatched(
-    before: Option<&SdoSequenceHandler>,
-    client: SdoClientInfo,
-    bytes: &[u8],
-) -> Option<SdoCommand> {
-    let command = SdoCommand::deserialize(&bytes[4..]).ok()?;
-    let header = SequenceLayerHeader::deserialize(&bytes[..4]).ok()?;
-    if command.header.is_aborted || header.receive_con == ReceiveConnState::ErrorResponse {
-        return None;
-    }
-    // The Rust's own sequence step, on a copy.
-    let mut copy = match before {
-        Some(handler) if upload(handler).is_some() => return None,
-        Some(handler) => SdoSequenceHandler::lent(
-            client,
-            handler.state().clone(),
-            handler.next_send_sequence(),
-            handler.current_receive_sequence(),
-        ),
-        None => SdoSequenceHandler::new(client),
-    };
-    copy.process_sequence_layer(header).ok()?;
-    Some(command)
-}
-
-/// What a dispatched command stores of a download, and where in the share.
-fn data_to_store<'a>(
-    before: Option<&SdoSequenceHandler>,
-    command: &'a SdoCommand,
-) -> Option<(usize, &'a [u8])> {
-    let SdoCommand {
-        header, payload, ..
-    } = command;
-    if header.command_id != CommandId::WriteByIndex {
-        return None;
-    }
-    match header.segmentation {
-        Segmentation::Expedited => None,
-        Segmentation::Initiate => {
-            let total = command.data_size.unwrap_or(0) as usize;
-            let accepted = payload.len() >= 4 && (1..=SHARE).contains(&total);
-            accepted.then(|| (0, &payload[4..]))
-        }
-        Segmentation::Segment | Segmentation::Complete => {
-            let SdoServerState::SegmentedDownload(transfer) = before?.state() else {
-                return None;
-            };
-            let Transfer {
-                transaction,
-                total,
-                offset,
-                ..
-            } = transfer.record();
-            let end = offset as usize + payload.len();
-            let whole = end == total as usize;
-            let accepted = header.transaction_id == transaction
-                && end <= total as usize
-                && (whole || header.segmentation == Segmentation::Segment);
-            accepted.then_some((offset as usize, payload))
-        }
-    }
-}
-
-/// The Rust accepts exactly what is stored; a whole download may still fail
-/// to be written.
-fn check_stored(command: &SdoCommand, stored: bool, aborted: bool) {
-    if command.header.command_id == CommandId::WriteByIndex {
-        match command.header.segmentation {
-            Segmentation::Expedited => {}
-            Segmentation::Initiate | Segmentation::Segment => assert_eq!(stored, !aborted),
-            Segmentation::Complete => assert!(stored || aborted),
-        }
-    }
-}
-
-/// The request as the Rust is asked, and, if its abort code is to be another
-/// one, which. Outside the domain of comparison, at dispatch:
-/// - the other known ids are answered as Abort is, so Abort is asked;
-/// - a total above 8,192 aborts 05040005 where total 0 aborts 06070010, so
-///   total 0 is asked.
-fn within_domain<'a>(
-    bytes: &'a [u8],
-    command: Option<&SdoCommand>,
-) -> (Cow<'a, [u8]>, Option<u32>) {
-    let Some(command) = command else {
-        return (Cow::Borrowed(bytes), None);
-    };
-    let initiate = command.header.segmentation == Segmentation::Initiate;
-    match command.header.command_id {
-        CommandId::WriteByIndex
-            if initiate
-                && command.payload.len() >= 4
-                && command.data_size.is_some_and(|total| total as usize > SHARE) =>
-        {
-            let mut asked = bytes.to_vec();
-            asked[TOTAL_AT..TOTAL_AT + 4].fill(0);
-            (Cow::Owned(asked), Some(OUT_OF_MEMORY))
-        }
-        CommandId::Nil
-        | CommandId::WriteByIndex
-        | CommandId::ReadByIndex
-        | CommandId::MaxSegmentSize
-        | CommandId::Abort => (Cow::Borrowed(bytes), None),
-        _ => {
-            let mut asked = bytes.to_vec();
-            asked[ID_AT] = CommandId::Abort as u8;
-            (Cow::Owned(asked), None)
-        }
-    }
-}
-
-fn record_state(state: &SdoServerState) -> State {
-    match state {
-        SdoServerState::Closed => State::Closed,
-        SdoServerState::Opening => State::Opening,
-        SdoServerState::Established => State::Established,
-        SdoServerState::SegmentedUpload(transfer) => State::Upload(transfer.record()),
-        SdoServerState::SegmentedDownload(transfer) => State::Download(transfer.record()),
-    }
-}
-
-/// The Rust's state for a record's: the buffer is the client's share, as far
-/// as the total (upload) or the offset (download).
-fn rust_state(state: &State, share: &[u8]) -> SdoServerState {
-    match state {
-        State::Closed => SdoServerState::Closed,
-        State::Opening => SdoServerState::Opening,
-        State::Established => SdoServerState::Established,
-        State::Upload(record) => {
-            let data = share[..record.total as usize].to_vec();
-            let stored = record.stored.then(|| piece_before(record, share));
-            SdoServerState::SegmentedUpload(SdoTransferState::lent(record, data, stored))
-        }
-        State::Download(record) => {
-            let data = share[..record.offset as usize].to_vec();
-            // Only a lent table has the flag in a download; nothing looks at
-            // the command.
-            let stored = record.stored.then(|| SdoCommand {
-                header: CommandLayerHeader::default(),
-                data_size: None,
-                payload: Vec::new(),
-            });
-            SdoServerState::SegmentedDownload(SdoTransferState::lent(record, data, stored))
-        }
-    }
-}
-
-/// The piece of an upload that ends at the offset.
-fn piece_before(record: &Transfer, share: &[u8]) -> SdoCommand {
-    let end = record.offset as usize;
-    let first = end == PIECE;
-    SdoCommand {
-        header: CommandLayerHeader {
-            transaction_id: record.transaction,
-            is_response: true,
-            is_aborted: false,
-            segmentation: match first {
-                true => Segmentation::Initiate,
-                false => Segmentation::Segment,
-            },
-            command_id: CommandId::ReadByIndex,
-            segment_size: PIECE as u16,
-        },
-        data_size: first.then_some(record.total),
-        payload: share[end - PIECE..end].to_vec(),
     }
 }

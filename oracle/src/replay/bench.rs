@@ -168,7 +168,9 @@ impl Bench {
         let Some(around) = &self.around else {
             return Outcome::Refused(3);
         };
-        around.deadline().map_or(Outcome::Nothing, Outcome::Deadline)
+        around
+            .deadline()
+            .map_or(Outcome::Nothing, Outcome::Deadline)
     }
 
     /// The numbers 1 to 4, the lowest first.

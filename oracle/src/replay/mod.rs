@@ -4,10 +4,14 @@
 mod area;
 mod around;
 mod bench;
+mod dispatch;
 mod item;
+mod make;
 mod record;
 mod run;
+mod state;
 mod table;
 
+pub use make::{Profile, sample, script};
 pub use record::Transfer;
 pub use run::run;

@@ -2,8 +2,8 @@
 
 use super::image::INDEXES;
 use crate::od::image::{self, Entry};
-use crate::replay::around::PIECE;
 use crate::replay::record::Transfer;
+use crate::replay::state::PIECE;
 use crate::rng::Rng;
 
 pub const NIL: u8 = 0x00;
@@ -101,7 +101,12 @@ pub fn any(rng: &mut Rng, transaction: u8, sound_image: Option<&[u8]>, strange: 
     if strange && rng.one_in(3) {
         let payload = key(rng, &entries);
         let payload = name(payload.0, payload.1, 0);
-        return Command::new(transaction, rng.pick(&[0, 0, 1, 2, 3]), rng.pick(&OTHERS), payload);
+        return Command::new(
+            transaction,
+            rng.pick(&[0, 0, 1, 2, 3]),
+            rng.pick(&OTHERS),
+            payload,
+        );
     }
     match rng.within(0, 19) {
         0..=9 => any_read(rng, transaction, &entries),
@@ -109,7 +114,12 @@ pub fn any(rng: &mut Rng, transaction: u8, sound_image: Option<&[u8]>, strange: 
         16 | 17 => {
             let length = rng.pick(&[0, 1, 2, 2, 3, 4]);
             let segmentation = rng.weighted(&[(5, 0), (1, 1), (1, 2), (1, 3)]);
-            Command::new(transaction, segmentation, MAX_SEGMENT_SIZE, rng.bytes(length))
+            Command::new(
+                transaction,
+                segmentation,
+                MAX_SEGMENT_SIZE,
+                rng.bytes(length),
+            )
         }
         18 => {
             let length = rng.pick(&[0, 0, 4]);
@@ -120,7 +130,11 @@ pub fn any(rng: &mut Rng, transaction: u8, sound_image: Option<&[u8]>, strange: 
 }
 
 fn any_read(rng: &mut Rng, transaction: u8, entries: &[Entry]) -> Command {
-    let long: Vec<Entry> = entries.iter().filter(|e| e.length > PIECE).copied().collect();
+    let long: Vec<Entry> = entries
+        .iter()
+        .filter(|e| e.length > PIECE)
+        .copied()
+        .collect();
     let (mut index, mut sub_index, _) = key(rng, entries);
     if !long.is_empty() && !rng.one_in(3) {
         (index, sub_index) = rng.pick(&long).key();
@@ -147,7 +161,11 @@ fn any_write(rng: &mut Rng, transaction: u8, entries: &[Entry], strange: bool) -
     let capacity = entry.map_or(4, |entry| entry.capacity);
     let some = rng.within(0, capacity);
     let length = rng.pick(&[capacity, capacity, capacity - 1, capacity + 1, some, 0]);
-    let length = if rng.one_in(12) { most } else { length.min(most) };
+    let length = if rng.one_in(12) {
+        most
+    } else {
+        length.min(most)
+    };
     let mut payload = name(index, sub_index, rng.pick(&[0, 0, 9]));
     payload.extend(rng.bytes(length));
     if rng.one_in(15) {

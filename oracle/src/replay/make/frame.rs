@@ -65,7 +65,8 @@ pub fn request(rng: &mut Rng, scene: &Scene) -> Vec<u8> {
     let noisy = rng.one_in(scene.noise);
     let state = scene.record.map_or(State::Closed, |record| record.state);
     if matches!(state, State::Closed) && rng.one_in(4) {
-        head.send = rng.pick(&[0, 61, 62, 63, rng_number(rng)]);
+        let any = any_number(rng);
+        head.send = rng.pick(&[0, 61, 62, 63, any]);
     }
     let mut body = awaited_body(rng, scene, &state);
     if noisy {
@@ -88,7 +89,7 @@ pub fn request(rng: &mut Rng, scene: &Scene) -> Vec<u8> {
     bytes
 }
 
-fn rng_number(rng: &mut Rng) -> u8 {
+fn any_number(rng: &mut Rng) -> u8 {
     rng.within(0, 63) as u8
 }
 
@@ -112,14 +113,15 @@ fn any_body(rng: &mut Rng, scene: &Scene) -> Vec<u8> {
 
 fn other_head(rng: &mut Rng, head: &mut Head, record: Option<&Record>) {
     let last = record.map_or(FIRST_RECEIVE, |record| record.receive) % 64;
+    let any = any_number(rng);
     match rng.within(0, 9) {
         // A repeat, a lost frame, an old one, any.
         0 | 1 => head.send = last,
         2 => head.send = (last + 2) % 64,
-        3 => head.send = rng.pick(&[(last + 63) % 64, (last + 32) % 64, rng_number(rng)]),
+        3 => head.send = rng.pick(&[(last + 63) % 64, (last + 32) % 64, any]),
         4 => {
             let near = (head.receive + rng.pick(&[1, 63])) % 64;
-            head.receive = rng.pick(&[near, near, rng_number(rng)]);
+            head.receive = rng.pick(&[near, near, any]);
         }
         5 | 6 => head.receive_mark = 3,
         7 => head.receive_mark = rng.within(0, 3) as u8,
@@ -165,7 +167,14 @@ fn odd_length(rng: &mut Rng, head: &Head) -> Vec<u8> {
         let length = rng.within(0, 3);
         return rng.bytes(length);
     }
-    let length = rng.pick(&[REQUEST - 1, REQUEST, REQUEST, REQUEST + 1, REQUEST + 2, 2_000]);
+    let length = rng.pick(&[
+        REQUEST - 1,
+        REQUEST,
+        REQUEST,
+        REQUEST + 1,
+        REQUEST + 2,
+        2_000,
+    ]);
     let read = command::read(rng.u8(), 0x1300, 0).bytes();
     let mut bytes = head.frame(&read);
     bytes.resize(length, rng.u8());

@@ -50,7 +50,11 @@ fn entry(rng: &mut Rng, (index, sub_index): (u16, u8), long: bool) -> Content {
         _ => length + rng.pick(&[0, 0, 1, 50, 1_500]),
     };
     let capacity = capacity.clamp(1, MAX_CAPACITY);
-    let length = if flags & VARIABLE == 0 { capacity } else { length };
+    let length = if flags & VARIABLE == 0 {
+        capacity
+    } else {
+        length
+    };
     Content {
         index,
         sub_index,
@@ -133,7 +137,12 @@ pub fn spoilt(rng: &mut Rng) -> Vec<u8> {
     let n = rng.within(0, entries.len() - 1);
     // Where the entry stands in the image.
     let at = 2 + 12 * n;
-    match rng.within(0, 13) {
+    // Those that make a long image are rare.
+    let way = match rng.within(0, 13) {
+        way @ 4..=6 if !rng.one_in(5) => way + 3,
+        way => way,
+    };
+    match way {
         0 => entries.swap(0, n),
         1 => entries.insert(n, entries[n].clone()),
         2 => entries[n].flags |= rng.pick(&[4, 8, 0x80]),

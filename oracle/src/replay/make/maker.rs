@@ -97,7 +97,7 @@ impl<'a, W: Write> Maker<'a, W> {
         }
         self.era -= 1;
         self.lend()?;
-        if self.once_in(150) {
+        if self.rng.one_in(500) {
             return self.long_connection();
         }
         if self.rng.one_in(30) {
@@ -142,7 +142,9 @@ impl<'a, W: Write> Maker<'a, W> {
         } else if self.once_in(lengths) {
             self.short_lengths = true;
             let answer = self.rng.pick(&[ANSWER, ANSWER, 1_469, 1_600, 1_467, 0]);
-            let area = self.rng.pick(&[AREA, AREA, AREA, 65_535, 65_537, 65_600, 0]);
+            let area = self
+                .rng
+                .pick(&[AREA, AREA, AREA, 65_535, 65_537, 65_600, 0]);
             let table = self.rng.pick(&[RECORDS, RECORDS, RECORDS, 7, 9, 0]);
             self.lend_lengths(answer, area, table)?;
         }

@@ -5,23 +5,30 @@
 pub struct Profile {
     /// Parts the random numbers of two profiles with the same seed.
     pub salt: u64,
+    /// How many clients there are at a time: one of these.
     pub clients: &'static [usize],
+    /// A request with something wrong, once in so many: one of these.
     pub noise: &'static [usize],
     pub image: usize,
+    /// Of the images.
     pub spoilt_image: usize,
     pub border_image: usize,
     pub table: usize,
+    /// Of the tables.
     pub spoilt_table: usize,
     pub area: usize,
+    /// Lengths other than the usual ones.
     pub lengths: usize,
+    /// Of the requests: commands outside the domain of comparison may come.
     pub strange: usize,
+    /// Of the requests: any bytes.
     pub random: usize,
 }
 
 pub const ONE: Profile = Profile {
     salt: 1,
     clients: &[1],
-    noise: &[2, 4, 8, 30],
+    noise: &[2, 3, 5, 9, 30],
     image: 40,
     spoilt_image: 0,
     border_image: 0,
@@ -57,9 +64,9 @@ const IMAGES: Profile = Profile {
     salt: 4,
     clients: &[1, 2, 4],
     noise: &[4, 8, 30],
-    image: 4,
+    image: 6,
     spoilt_image: 3,
-    border_image: 40,
+    border_image: 60,
     ..ONE
 };
 

@@ -2,8 +2,8 @@
 
 use super::image::INDEXES;
 use crate::frame::basic::MacAddress;
-use crate::replay::around::PIECE;
 use crate::replay::record::{Record, State, Transfer};
+use crate::replay::state::PIECE;
 use crate::replay::table::{RECORDS, Table};
 use crate::rng::Rng;
 use crate::sdo::server::SdoClientInfo;
@@ -84,7 +84,9 @@ pub fn upload(rng: &mut Rng, now: u64) -> Transfer {
 /// `keys` are the image's, so that some downloads can be written.
 pub fn download(rng: &mut Rng, now: u64, keys: &[(u16, u8, u32)]) -> Transfer {
     let any = rng.within(1, 8_192) as u32;
-    let mut total = rng.pick(&[1, 2, 4, 10, 100, 1_452, 1_479, 1_480, 1_481, 8_191, 8_192, any]);
+    let mut total = rng.pick(&[
+        1, 2, 4, 10, 100, 1_452, 1_479, 1_480, 1_481, 8_191, 8_192, any,
+    ]);
     let (mut index, mut sub_index) = named(rng);
     if !keys.is_empty() && !rng.one_in(4) {
         let capacity;
@@ -98,7 +100,16 @@ pub fn download(rng: &mut Rng, now: u64, keys: &[(u16, u8, u32)]) -> Transfer {
     Transfer {
         transaction: rng.pick(&[0, 1, 5, 7, 255]),
         total,
-        offset: rng.pick(&[0, 1.min(total), total - 1, total, total.max(1_480), some, near, near]),
+        offset: rng.pick(&[
+            0,
+            1.min(total),
+            total - 1,
+            total,
+            total.max(1_480),
+            some,
+            near,
+            near,
+        ]),
         index,
         sub_index,
         deadline: Some(deadline(rng, now)),
@@ -108,12 +119,7 @@ pub fn download(rng: &mut Rng, now: u64, keys: &[(u16, u8, u32)]) -> Transfer {
 }
 
 /// A sound table of some of these clients.
-pub fn sound(
-    rng: &mut Rng,
-    now: u64,
-    clients: &[SdoClientInfo],
-    keys: &[(u16, u8, u32)],
-) -> Table {
+pub fn sound(rng: &mut Rng, now: u64, clients: &[SdoClientInfo], keys: &[(u16, u8, u32)]) -> Table {
     let mut chosen = clients.to_vec();
     rng.shuffle(&mut chosen);
     let most = chosen.len().min(RECORDS);
