@@ -80,6 +80,8 @@ pub fn request(rng: &mut Rng, scene: &Scene) -> Vec<u8> {
                 return odd_length(rng, &head);
             }
         }
+    } else if rng.one_in(12) {
+        rare(rng, scene, &state, &mut head, &mut body);
     }
     let mut bytes = head.frame(&body);
     if rng.one_in(20) {
@@ -87,6 +89,30 @@ pub fn request(rng: &mut Rng, scene: &Scene) -> Vec<u8> {
         bytes[3] = rng.u8();
     }
     bytes
+}
+
+/// What random changes seldom hit together.
+fn rare(rng: &mut Rng, scene: &Scene, state: &State, head: &mut Head, body: &mut Vec<u8>) {
+    match state {
+        // Refused with 9; the record stays and is Closed.
+        State::Closed => head.send_mark = rng.pick(&[0, 3]),
+        // Error responses that find no stored piece.
+        State::Upload(transfer) if !transfer.stored => {
+            head.receive_mark = 3;
+            *body = any_body(rng, scene);
+        }
+        // Refused with 9, acknowledging or not.
+        State::Upload(_) => {
+            head.send_mark = rng.pick(&[0, 1, 3]);
+            head.receive_mark = rng.pick(&[0, 1, 2]);
+            head.receive = (head.receive + rng.pick(&[0, 0, 1, 63])) % 64;
+            body.clear();
+        }
+        State::Opening | State::Established | State::Download(_) => {
+            head.receive_mark = rng.pick(&[0, 1, 3]);
+            head.send_mark = rng.pick(&[1, 2, 2, 3]);
+        }
+    }
 }
 
 fn any_number(rng: &mut Rng) -> u8 {

@@ -8,6 +8,7 @@ mod maker;
 mod profile;
 mod sample;
 mod table;
+mod tour;
 
 use std::io::{self, Write};
 
