@@ -1,5 +1,5 @@
 -- What acting on a command keeps: the record's client and area number, and the soundness of record, share and image; and every answer is well formed.
-use Prim.Native.Nat.{ℕ, zero, suc, _+_, _%_, _≤_, _<_, max}
+use Prim.Native.Nat.{ℕ, zero, suc, _+_, _%_, _≤_, _<_, max, min}
 use native.Mathlib.Omega.{arith}
 use native.Mathlib.Nat.{zero-mod}
 use mathlib.Core.Path.{_≡_, refl, sym, ap, _∙_}
@@ -22,7 +22,7 @@ use Rattle.protocol.specs.declared.Lookup.{Lookup}
 use Rattle.protocol.specs.declared.Lookup.the-variants.{NoObject, NoSubIndex, Found}
 use Rattle.protocol.specs.declared.Access.{Access}
 use Rattle.protocol.specs.declared.Access.the-variants.{Denied, Granted}
-use Rattle.protocol.specs.Constants.{PIECE, SHARE, FIRST-MAX, CAPACITY-MAX, INVALID-COMMAND, INVALID-SEQUENCE, OUT-OF-MEMORY, LENGTH-MISFIT, LENGTH-TOO-LOW, GENERAL-ERROR, REQUEST-MAX}
+use Rattle.protocol.specs.Constants.{PIECE, SHARE, FIRST-MAX, OFFSET-MAX, CAPACITY-MAX, INVALID-COMMAND, INVALID-SEQUENCE, OUT-OF-MEMORY, LENGTH-MISFIT, LENGTH-TOO-LOW, GENERAL-ERROR, REQUEST-MAX}
 use Rattle.protocol.specs.declared.CommandId.{CommandId}
 use Rattle.protocol.specs.declared.CommandId.the-variants.{Nil, WriteByIndex, ReadByIndex, WriteAllByIndex, ReadAllByIndex, WriteByName, ReadByName, FileWrite, FileRead, WriteMultipleParamByIndex, ReadMultipleParamByIndex, Abort, MaxSegmentSize}
 use Rattle.protocol.specs.declared.Segmentation.{Segmentation}
@@ -213,7 +213,7 @@ module _ (c : Connection) (share image : List ℕ) (clock transaction : ℕ) (sc
   download-sound : (total : ℕ) (p : List ℕ) → 0 < total → total ≤ SHARE → length p ≤ FIRST-MAX + 4 → soundDownload (newDownload c share image clock transaction total p) ≡ true
   unfolding soundDownload
   download-sound total p h k l =
-      both (both (both (le-leb 1 total h) (le-leb total SHARE k)) (le-leb (length (dataOf p)) (max total FIRST-MAX) (simp length-drop (omega arith)))) refl
+      both (both (both (le-leb 1 total h) (le-leb total SHARE k)) (le-leb (min (length (dataOf p)) OFFSET-MAX) (max total FIRST-MAX) (simp length-drop (omega arith)))) refl
 
   initiate-fine : (total : ℕ) (p : List ℕ) → length p ≤ FIRST-MAX + 4 → Fine c (writeInitiate c share image clock transaction total p)
   unfolding writeInitiate

@@ -8,7 +8,7 @@ use Rattle.protocol.specs.Calls.{verdict, frame}
 use Rattle.protocol.specs.Command.{flagPlaces, segmentationOf, knownIds, idAmong, idOf, fixedHeader, encodeCommand, decodeWith, decodeId, decodeCommand}
 use Rattle.protocol.specs.ConnectionRecord.{beforeIn, beforeStep, closedStep, openingStep, acknowledge, laterStep, stepIn, sequenceStep, dispatch, uploadCommand, commandIn, commandLayer, settle, answered, emptyIn, emptyFrame, afterStep, onStep, onBefore, onHeader, serve}
 use Rattle.protocol.specs.ConnectionTable.{emptyTable, ordered, areasOnce, soundUpload, soundDownload, soundRecord, soundTable, placeOf, update, insert, join, release, chosen, tickUpload, tickIn, tickRecord}
-use Rattle.protocol.specs.Constants.{PIECE, SHARE, RECORDS, AREA, ANSWER-MIN, REQUEST-MAX, FIRST-MAX, CLOCK-MAX, CAPACITY-MAX, IMAGE-MAX, TIMEOUT-INDEX, RETRIES-INDEX, DEFAULT-TIMEOUT, DEFAULT-RETRIES}
+use Rattle.protocol.specs.Constants.{PIECE, SHARE, RECORDS, AREA, ANSWER-MIN, REQUEST-MAX, FIRST-MAX, CLOCK-MAX, OFFSET-MAX, CAPACITY-MAX, IMAGE-MAX, TIMEOUT-INDEX, RETRIES-INDEX, DEFAULT-TIMEOUT, DEFAULT-RETRIES}
 use Rattle.protocol.specs.DictionaryImage.{entryAt, entriesFrom, entries, soundEntries, soundImage, lookupIn, lookup, parameterOf, timeoutOf, retriesOf, writable, writeImage}
 use Rattle.protocol.specs.Request.{requestTests, answerWith, requestServed, accepted, onVerdict, requestOf}
 use Rattle.protocol.specs.SequenceHeader.{receiveMarkOf, sendMarkOf, encodeHeader, decodeHeader, next}
@@ -16,5 +16,5 @@ use Rattle.protocol.specs.Tick.{tickTests, tickTold, ticked, onTickVerdi
 use Rattle.protocol.specs.TransferRecord.{piece, deadlineAfter, advance, readValue, readEntry, readByIndex, writeEntry, writeObject, writeExpedited, writeInitiate, writeSegment, writeComplete, downloadStep, writeData, maxSegmentSize}
 
 pub card-holds : every test rows ≡ true
-unfolding pick first fold every count keep le leBytes splice same sentBy tickSentBy play plays uploads valueFrom onEmpty inState test downloading uploading rows verdict frame flagPlaces segmentationOf knownIds idAmong idOf fixedHeader encodeCommand decodeWith decodeId decodeCommand beforeIn beforeStep closedStep openingStep acknowledge laterStep stepIn sequenceStep dispatch uploadCommand commandIn commandLayer settle answered emptyIn emptyFrame afterStep onStep onBefore onHeader serve emptyTable ordered areasOnce soundUpload soundDownload soundRecord soundTable placeOf update insert join release chosen tickUpload tickIn tickRecord PIECE SHARE RECORDS AREA ANSWER-MIN REQUEST-MAX FIRST-MAX CLOCK-MAX CAPACITY-MAX IMAGE-MAX TIMEOUT-INDEX RETRIES-INDEX DEFAULT-TIMEOUT DEFAULT-RETRIES entryAt entriesFrom entries soundEntries soundImage lookupIn lookup parameterOf timeoutOf retriesOf writable writeImage requestTests answerWith requestServed accepted onVerdict requestOf receiveMarkOf sendMarkOf encodeHeader decodeHeader next tickTests tickTold ticked onTickVerdict tickOf piece deadlineAfter advance readValue readEntry readByIndex writeEntry writeObject writeExpedited writeInitiate writeSegment writeComplete downloadStep writeData maxSegmentSize
+unfolding pick first fold every count keep le leBytes splice same sentBy tickSentBy play plays uploads valueFrom onEmpty inState test downloading uploading rows verdict frame flagPlaces segmentationOf knownIds idAmong idOf fixedHeader encodeCommand decodeWith decodeId decodeCommand beforeIn beforeStep closedStep openingStep acknowledge laterStep stepIn sequenceStep dispatch uploadCommand commandIn commandLayer settle answered emptyIn emptyFrame afterStep onStep onBefore onHeader serve emptyTable ordered areasOnce soundUpload soundDownload soundRecord soundTable placeOf update insert join release chosen tickUpload tickIn tickRecord PIECE SHARE RECORDS AREA ANSWER-MIN REQUEST-MAX FIRST-MAX CLOCK-MAX OFFSET-MAX CAPACITY-MAX IMAGE-MAX TIMEOUT-INDEX RETRIES-INDEX DEFAULT-TIMEOUT DEFAULT-RETRIES entryAt entriesFrom entries soundEntries soundImage lookupIn lookup parameterOf timeoutOf retriesOf writable writeImage requestTests answerWith requestServed accepted onVerdict requestOf receiveMarkOf sendMarkOf encodeHeader decodeHeader next tickTests tickTold ticked onTickVerdict tickOf piece deadlineAfter advance readValue readEntry readByIndex writeEntry writeObject writeExpedited writeInitiate writeSegment writeComplete downloadStep writeData maxSegmentSize
 card-holds = refl

@@ -34,6 +34,10 @@ FIRST-MAX = REQUEST-MAX - 4 - 12 - 4
 unfoldable pub CLOCK-MAX : ℕ
 CLOCK-MAX = 0x7FFFFFFFFFFFFFFF
 
+-- an offset is a u32; no accepted request comes near its end
+unfoldable pub OFFSET-MAX : ℕ
+OFFSET-MAX = 0xFFFFFFFF
+
 -- "capacity u16 (1 to 8,192)", "image at most 65,536 bytes"
 unfoldable pub CAPACITY-MAX : ℕ
 CAPACITY-MAX = 8192

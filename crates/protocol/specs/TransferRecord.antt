@@ -15,10 +15,13 @@ use Rattle.protocol.specs.declared.SdoTransferState.{SdoTransferState}
 use Rattle.protocol.specs.declared.SdoServerState.{SdoServerState}
 use Rattle.protocol.specs.declared.SdoServerState.the-variants.{Closed, Opening, Established, SegmentedDownload, SegmentedUpload}
 use Rattle.protocol.specs.declared.Connection.{Connection}
+use Rattle.protocol.specs.declared.Body.{Body}
+use Rattle.protocol.specs.declared.Body.the-variants as B
+use Rattle.protocol.specs.declared.Action.{Action}
 use Rattle.protocol.specs.declared.Access.{Access}
 use Rattle.protocol.specs.declared.Access.the-variants.{Denied, Granted}
-use Rattle.protocol.specs.Constants.{PIECE, SHARE, CLOCK-MAX, INVALID-COMMAND, INVALID-SEQUENCE, OUT-OF-MEMORY, LENGTH-MISFIT, LENGTH-TOO-LOW, GENERAL-ERROR}
-use Rattle.protocol.specs.Command.{Command}
+use Rattle.protocol.specs.Constants.{PIECE, SHARE, CLOCK-MAX, OFFSET-MAX, INVALID-COMMAND, INVALID-SEQUENCE, OUT-OF-MEMORY, LENGTH-MISFIT, LENGTH-TOO-LOW, GENERAL-ERROR}
+use Rattle.protocol.specs.Command.{Command, withPayload}
 use Rattle.protocol.specs.DictionaryImage.{lookup, valueOf, readable, writable, writeImage, timeoutOf, retriesOf}
 
 -- a record with other numbers and another state; what else it holds stays
@@ -34,6 +37,18 @@ pub record Acted : Type 0 where
   pub share : List ℕ
   pub image : List ℕ
   pub command : Command
+
+-- the payload that the code's answer points at: "a part of the image for an expedited answer and a part of the area otherwise"
+abbrev pub bodyBytes : List ℕ → List ℕ → Body → List ℕ
+bodyBytes share image B.Nothing = []
+bodyBytes share image (B.Image at n) = take n (drop at image)
+bodyBytes share image (B.Share at n) = take n (drop at share)
+bodyBytes share image (B.Code code) = leBytes 4 code
+bodyBytes share image (B.Sizes a b) = leBytes 2 a ++ leBytes 2 b
+
+-- the values of the code's answer, with the share and the image as they are left
+abbrev pub toldAction : Action → List ℕ → List ℕ → Acted
+toldAction a share image = record { connection = a .connection; share = share; image = image; command = withPayload (a .command) (bodyBytes share image (a .body)) }
 
 -- "answered Expedited under id Nil"
 abbrev pub reply : ℕ → List ℕ → Command
@@ -130,7 +145,7 @@ module _ (c : Connection) (share image : List ℕ) (clock transaction : ℕ) whe
 
   -- "WriteByIndex Initiate: total 0 aborts 06070010; total above 8,192 aborts 05040005 (added, outside the domain)."
   abbrev pub newDownload : ℕ → List ℕ → SdoTransferState
-  newDownload total p = record { transaction = transaction; total = total; offset = length (dataOf p); index = indexOf p; sub = subOf p; deadline = At (deadlineAfter image clock); retries = 0; stored = false }
+  newDownload total p = record { transaction = transaction; total = total; offset = min (length (dataOf p)) OFFSET-MAX; index = indexOf p; sub = subOf p; deadline = At (deadlineAfter image clock); retries = 0; stored = false }
 
   unfoldable pub writeInitiate : ℕ → List ℕ → Acted
   writeInitiate total p =

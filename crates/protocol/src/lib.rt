@@ -162,6 +162,28 @@ pub enum Access {
     Granted(Entry),
 }
 
+// Where an answer's payload stands: nowhere, a part of the image, a part of the client's share of the area (place and length), or numbers that the answer's writer lays out.
+pub enum Body {
+    Nothing,
+    Image(u32, u16),
+    Share(u32, u16),
+    Code(u32),
+    Sizes(u16, u16),
+}
+
+// What acting on a command leaves of the record, and the answer.
+pub struct Action {
+    pub connection: Connection,
+    pub command: SdoCommand,
+    pub body: Body,
+}
+
+// What an upload's piece is: its command, and where its payload stands.
+pub struct Piece {
+    pub command: SdoCommand,
+    pub body: Body,
+}
+
 // Why a call is refused: document 01's numbers 1 to 9 in order.
 pub enum Refusal {
     Lent,

@@ -1,0 +1,280 @@
+// The dictionary image: its soundness, the look-up of an object, the two parameters, and a write. Every function takes every image.
+use protocol::Access;
+use protocol::Entry;
+use protocol::Lookup;
+ghost use mathlib.Core.Path.{_≡_};
+ghost use Prim.Native.Nat.{_+_, _*_, _≤_};
+ghost use lib.ListN.{length};
+ghost use Rattle.picks.specs.Pick.{pick};
+ghost use Rattle.octets.specs.Octets.{leBytes, splice};
+ghost use Rattle.protocol.specs.declared.Lookup.the-variants.{NoObject, NoSubIndex, Found};
+ghost use Rattle.protocol.specs.DictionaryImage.{entryAt, entriesFrom, isVariable, isReadOnly, key, soundEntry, soundEntries, soundImage, isAt, lookup, valueOf, readable, parameterOf, timeoutOf, retriesOf, writable, writeImage};
+
+// The longest image, and the largest capacity of an entry.
+const IMAGE_MAX: usize = 65536;
+
+const CAPACITY_MAX: u16 = 8192;
+
+// The objects of the two parameters, and what holds where they are missing.
+const TIMEOUT_INDEX: u16 = 0x1300;
+
+const RETRIES_INDEX: u16 = 0x1302;
+
+const DEFAULT_TIMEOUT: u32 = 15000;
+
+const DEFAULT_RETRIES: u32 = 2;
+
+// The abort codes of a read and a write.
+const READ_ONLY: u32 = 0x06010002;
+
+const NO_OBJECT: u32 = 0x06020000;
+
+const LENGTH_MISFIT: u32 = 0x06070010;
+
+const LENGTH_TOO_LOW: u32 = 0x06070013;
+
+const NO_SUB_INDEX: u32 = 0x06090011;
+
+// The last place to which ten can be added.
+const PLACE_MAX: usize = 18446744073709551605;
+
+// The entry at a place; bytes past the end are 0.
+pub fn entry_at(image: &[u8], at: usize) -> Entry
+    ensures { λ r. ⌜ r ≡ entryAt (now (image .entry)) at ⌝ }
+{
+    let s = octets::rest(image, at);
+    Entry {
+        place: at,
+        index: octets::u16_at(s, 0),
+        sub: octets::byte_at(s, 2),
+        flags: octets::byte_at(s, 3),
+        body: octets::u32_at(s, 4),
+        capacity: octets::u16_at(s, 8),
+        length: octets::u16_at(s, 10),
+    }
+}
+
+// Whether an entry's length may be below its capacity.
+pub fn is_variable(e: Entry) -> bool
+    ensures { λ r. ⌜ r ≡ isVariable e ⌝ }
+{
+    let flags = e.flags;
+    flags % 2 == 1
+}
+
+// Whether an entry refuses writes.
+pub fn is_read_only(e: Entry) -> bool
+    ensures { λ r. ⌜ r ≡ isReadOnly e ⌝ }
+{
+    let flags = e.flags;
+    flags / 2 % 2 == 1
+}
+
+// The number that entries are ordered by.
+fn key_of(e: Entry) -> u32
+    ensures { λ r. ⌜ r ≡ key e ⌝ }
+{
+    let index = e.index;
+    let sub = e.sub;
+    (index as u32) * 256 + (sub as u32)
+}
+
+// Whether an entry is sound, with a key of at least `least` and its body at `start`.
+fn is_sound(e: Entry, least: u32, start: u32) -> bool
+    ensures { λ r. ⌜ r ≡ soundEntry least start e ⌝ }
+{
+    (least <= key_of(e))
+        & (e.flags <= 3)
+        & (1 <= e.capacity)
+        & (e.capacity <= CAPACITY_MAX)
+        & (e.body == start)
+        & (e.length <= e.capacity)
+        & (is_variable(e) | (e.length == e.capacity))
+}
+
+// Whether the first n entries of an image are sound, one behind the other, up to its end.
+fn sound_entries(image: &[u8], n: usize) -> bool
+    requires { ⌜ (2 + 12 * n ≤ length (now image)) × (length (now image) ≤ 65536) ⌝ }
+    ensures { λ r. ⌜ r ≡ soundEntries (length (now (image .entry))) 0 (2 + 12 * n) (entriesFrom (now (image .entry)) 2 n) ⌝ }
+{
+    let mut i = 0;
+    let mut least: u32 = 0;
+    let mut start: u32 = (2 + 12 * n) as u32;
+    while i < n {
+        let e = entry_at(image, 2 + 12 * i);
+        if is_sound(e, least, start) {
+            let capacity = e.capacity;
+            least = key_of(e) + 1;
+            start = start + (capacity as u32);
+            i += 1;
+        } else {
+            return false;
+        }
+    }
+    (start as usize) == image.len()
+}
+
+// Whether an image is sound, in one pass that ends at the first fault.
+pub fn sound_image(image: &[u8]) -> bool
+    ensures { λ r. ⌜ r ≡ soundImage (now (image .entry)) ⌝ }
+{
+    let size = image.len();
+    if size < 2 {
+        return false;
+    }
+    if IMAGE_MAX < size {
+        return false;
+    }
+    let n = octets::u16_at(image, 0) as usize;
+    if size < 2 + 12 * n {
+        return false;
+    }
+    sound_entries(image, n)
+}
+
+// Whether an entry has this index and sub-index.
+fn is_at(e: Entry, index: u16, sub: u8) -> bool
+    ensures { λ r. ⌜ r ≡ isAt index sub e ⌝ }
+{
+    (e.index == index) & (e.sub == sub)
+}
+
+// What is missing: the sub-index of an object that was seen, or the object.
+fn missing(seen: bool) -> Lookup
+    ensures { λ r. ⌜ r ≡ pick seen NoSubIndex NoObject ⌝ }
+{
+    if seen {
+        Lookup::NoSubIndex
+    } else {
+        Lookup::NoObject
+    }
+}
+
+// The entry of an index and sub-index, or which of the two is missing. Behind the end all entries are alike, so that one is enough.
+pub fn lookup(image: &[u8], index: u16, sub: u8) -> Lookup
+    ensures { λ r. ⌜ r ≡ lookup (now (image .entry)) index sub ⌝ }
+{
+    let n = octets::u16_at(image, 0) as usize;
+    let mut i = 0;
+    let mut seen = false;
+    while i < n {
+        let at = 2 + 12 * i;
+        let e = entry_at(image, at);
+        if is_at(e, index, sub) {
+            return Lookup::Found(e);
+        }
+        seen = seen | (e.index == index);
+        if image.len() <= at {
+            return missing(seen);
+        }
+        i += 1;
+    }
+    missing(seen)
+}
+
+// The value that an entry holds.
+pub fn value(image: &[u8], e: Entry) -> &[u8]
+    ensures { λ r. ⌜ now r ≡ valueOf (now (image .entry)) e ⌝ }
+{
+    let body = e.body as usize;
+    let len = e.length as usize;
+    octets::part(image, body, len)
+}
+
+// What a read of what was found is.
+pub fn readable(l: Lookup) -> Access
+    ensures { λ r. ⌜ r ≡ readable l ⌝ }
+{
+    match l {
+        Lookup::NoObject => Access::Denied(NO_OBJECT),
+        Lookup::NoSubIndex => Access::Denied(NO_SUB_INDEX),
+        Lookup::Found(e) => Access::Granted(e),
+    }
+}
+
+// The number that an entry holds, if it has four bytes and a fixed length, else the default.
+fn number(image: &[u8], e: Entry, default: u32) -> u32
+    ensures { λ r. ⌜ r ≡ parameterOf (now (image .entry)) default (Found e) ⌝ }
+{
+    let body = e.body as usize;
+    if (e.length == 4) & !is_variable(e) {
+        octets::u32_at(image, body)
+    } else {
+        default
+    }
+}
+
+// The number at sub-index 0 of an object, or the default.
+fn parameter(image: &[u8], index: u16, default: u32) -> u32
+    ensures { λ r. ⌜ r ≡ parameterOf (now (image .entry)) default (lookup (now (image .entry)) index 0) ⌝ }
+{
+    let l = lookup(image, index, 0);
+    match l {
+        Lookup::NoObject => default,
+        Lookup::NoSubIndex => default,
+        Lookup::Found(e) => number(image, e, default),
+    }
+}
+
+// The timeout of a transfer in milliseconds.
+pub fn timeout(image: &[u8]) -> u32
+    ensures { λ r. ⌜ r ≡ timeoutOf (now (image .entry)) ⌝ }
+{
+    parameter(image, TIMEOUT_INDEX, DEFAULT_TIMEOUT)
+}
+
+// How often a segment is sent again.
+pub fn retries(image: &[u8]) -> u32
+    ensures { λ r. ⌜ r ≡ retriesOf (now (image .entry)) ⌝ }
+{
+    parameter(image, RETRIES_INDEX, DEFAULT_RETRIES)
+}
+
+// What a write of n bytes to an entry is.
+fn entry_writable(e: Entry, n: usize) -> Access
+    ensures { λ r. ⌜ r ≡ writable (Found e) n ⌝ }
+{
+    let capacity = e.capacity as usize;
+    let short = !is_variable(e) & (n < capacity);
+    let long = capacity < n;
+    let closed = is_read_only(e);
+    if short {
+        return Access::Denied(LENGTH_TOO_LOW);
+    }
+    if long {
+        return Access::Denied(LENGTH_MISFIT);
+    }
+    if closed {
+        return Access::Denied(READ_ONLY);
+    }
+    Access::Granted(e)
+}
+
+// What a write of n bytes to what was found is.
+pub fn writable(l: Lookup, n: usize) -> Access
+    ensures { λ r. ⌜ r ≡ writable l n ⌝ }
+{
+    match l {
+        Lookup::NoObject => Access::Denied(NO_OBJECT),
+        Lookup::NoSubIndex => Access::Denied(NO_SUB_INDEX),
+        Lookup::Found(e) => entry_writable(e, n),
+    }
+}
+
+// The length of the entry at a place is set.
+fn set_length(image: &mut [u8], place: usize, n: u16)
+    ensures { λ _. ⌜ now (image .exit) ≡ splice (place + 10) (leBytes 2 n) (now (image .entry)) ⌝ }
+{
+    if place <= PLACE_MAX {
+        octets::store_u16(image, place + 10, n);
+    }
+}
+
+// Writes the bytes and their length; nothing else changes, and what falls outside is dropped.
+pub fn write(image: &mut [u8], e: Entry, bytes: &[u8])
+    ensures { λ _. ⌜ now (image .exit) ≡ writeImage (now (image .entry)) e (now (bytes .entry)) ⌝ }
+{
+    let body = e.body as usize;
+    octets::copy_at(image, body, bytes);
+    set_length(image, e.place, (bytes.len() % 65536) as u16);
+}
