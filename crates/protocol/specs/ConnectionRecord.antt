@@ -18,11 +18,15 @@ use Rattle.protocol.specs.declared.SdoTransferState.{SdoTransferState}
 use Rattle.protocol.specs.declared.SdoServerState.{SdoServerState}
 use Rattle.protocol.specs.declared.SdoServerState.the-variants.{Closed, Opening, Established, SegmentedDownload, SegmentedUpload}
 use Rattle.protocol.specs.declared.Connection.{Connection}
+use Rattle.protocol.specs.declared.Step.{Step}
+use Rattle.protocol.specs.declared.Step.the-variants as T
+use Rattle.protocol.specs.declared.Resend.{Resend}
+use Rattle.protocol.specs.declared.Resend.the-variants.{Resends, GoesOn}
 use Rattle.protocol.specs.Constants.{INVALID-COMMAND, INVALID-SEQUENCE, GENERAL-ERROR}
 use Rattle.protocol.specs.Coding.{Answer, refused, value}
 use Rattle.protocol.specs.SequenceHeader.{receiveMark, sendMark, next, decodeHeader, commandPart}
-use Rattle.protocol.specs.Command.{Command, Decoding, decoded, undecodable, flagPlaces, decodeCommand, undecodableTransaction, totalNumber, idByte}
-use Rattle.protocol.specs.TransferRecord.{Acted, moved, withState, aborts, replies, advance, readByIndex, writeByIndex, maxSegmentSize, storedPiece}
+use Rattle.protocol.specs.Command.{Command, Decoding, decoded, undecodable, flagPlaces, decodeCommand, undecodableTransaction, totalNumber, idByte, withPayload}
+use Rattle.protocol.specs.TransferRecord.{Acted, bodyBytes, moved, withState, aborts, replies, advance, readByIndex, writeByIndex, maxSegmentSize, storedPiece}
 
 -- an answer: header and command
 pub record Reply : Type 0 where
@@ -41,6 +45,11 @@ pub data Before : Type 0 where
   resends : Reply → Before
   goesOn : Before
 
+-- the values of the code's answer, whose piece stands in the share
+abbrev pub toldResend : Resend → List ℕ → List ℕ → Before
+toldResend (Resends h p) share image = resends (record { header = h; command = withPayload (p .command) (bodyBytes share image (p .body)) })
+toldResend GoesOn share image = goesOn
+
 abbrev pub resent : Connection → List ℕ → SequenceLayerHeader → SdoTransferState → Reply
 resent c share h t = record { header = record { receive = h .send; rcon = R.ConnectionValid; send = c .send; scon = S.ConnectionValidAckRequest }; command = storedPiece t share }
 
@@ -58,6 +67,11 @@ beforeStep c share h = beforeIn (c .state) c share h
 pub data Stepped : Type 0 where
   stepped : Connection → SequenceLayerHeader → Stepped
   misfit : Connection → Stepped
+
+-- the values of the code's answer
+abbrev pub toldStep : Step → Stepped
+toldStep (T.Stepped c r) = stepped c r
+toldStep (T.Misfit c) = misfit c
 
 abbrev pub answerMarked : Connection → SequenceLayerHeader
 answerMarked c = record { receive = c .receive; rcon = R.ConnectionValid; send = c .send; scon = S.ConnectionValid }

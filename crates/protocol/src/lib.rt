@@ -184,6 +184,18 @@ pub struct Piece {
     pub body: Body,
 }
 
+// What the sequence step leaves: the record with the answer's header so far, or the record of a frame that does not fit.
+pub enum Step {
+    Stepped(Connection, SequenceLayerHeader),
+    Misfit(Connection),
+}
+
+// What stands before the sequence step: a resend of the stored piece, or nothing.
+pub enum Resend {
+    Resends(SequenceLayerHeader, Piece),
+    GoesOn,
+}
+
 // Why a call is refused: document 01's numbers 1 to 9 in order.
 pub enum Refusal {
     Lent,
