@@ -8,7 +8,8 @@ use lib.ListN.{length, getD}
 use Rattle.picks.specs.Pick.{pick, first}
 use Rattle.protocol.specs.declared.SdoClientInfo.{SdoClientInfo}
 use Rattle.protocol.specs.declared.Connection.{Connection}
-use Rattle.protocol.specs.Calls.{refusalNumber, Test, refuse, accept, verdict}
+use Rattle.protocol.specs.Coding.{refusalNumber}
+use Rattle.protocol.specs.Calls.{Test, refuse, accept, verdict}
 use Rattle.protocol.specs.Request.{requestTests}
 use Rattle.protocol.specs.Tick.{tickTests}
 use Rattle.protocol.specs.DeadlineQuery.{queryTests}

@@ -34,6 +34,12 @@ header-at-least Initiate = omega arith
 header-at-least Segment = omega arith
 header-at-least Complete = omega arith
 
+pub header-at-most : (s : Segmentation) → headerLength s ≤ 12
+header-at-most Expedited = omega arith
+header-at-most Initiate = omega arith
+header-at-most Segment = omega arith
+header-at-most Complete = omega arith
+
 -- the length of the total's bytes, and of a whole command's
 total-length : (s : Segmentation) (d : DataSize) → 8 + length (totalBytes s d) ≡ headerLength s
 unfolding leBytes

@@ -15,11 +15,11 @@ use Rattle.protocol.specs.declared.Refusal.the-variants as N
 use Rattle.protocol.specs.declared.SequenceLayerHeader.{SequenceLayerHeader}
 use Rattle.protocol.specs.declared.SdoClientInfo.{SdoClientInfo}
 use Rattle.protocol.specs.declared.Connection.{Connection}
-use Rattle.protocol.specs.Coding.{Answer, refused, value}
+use Rattle.protocol.specs.Coding.{Answer, refused, value, refusalNumber}
 use Rattle.protocol.specs.SequenceHeader.{receiveMark, sendMark, decodeHeader}
 use Rattle.protocol.specs.ConnectionRecord.{Reply, Served, Before, resends, goesOn, beforeStep, Stepped, stepped, misfit, sequenceStep, isOpening, answered, emptyFrame, afterStep, onStep, onBefore, onHeader, serve}
 use Rattle.protocol.specs.ConnectionTable.{soundTable, isClosed, release, holds, tickRecord, Ticking, idle, ticks}
-use Rattle.protocol.specs.Calls.{refusalNumber, Test, Verdict, refuse, accept, verdict}
+use Rattle.protocol.specs.Calls.{Test, Verdict, refuse, accept, verdict}
 use Rattle.protocol.specs.Request.{requestTests, answerWith, requestServed, accepted, onVerdict, requestOf}
 use Rattle.protocol.specs.Tick.{tickTests, tickTold, ticked, onTickVerdict, tickOf}
 use Rattle.protocol.specs.DeadlineQuery.{queryTests, onQueryVerdict, queryOf}

@@ -5,27 +5,17 @@ use mathlib.Core.List.{List, [], _∷_, _++_}
 use lib.ListN.{length}
 use lib.Dec.{ltb, eqb}
 use Rattle.picks.specs.Pick.{pick}
+use Rattle.octets.specs.Octets.{splice}
 use Rattle.protocol.specs.declared.Refusal.{Refusal}
-use Rattle.protocol.specs.declared.Refusal.the-variants as N
+use Rattle.protocol.specs.declared.Checked.{Checked}
+use Rattle.protocol.specs.declared.Checked.the-variants as K
 use Rattle.protocol.specs.declared.SdoClientInfo.{SdoClientInfo}
 use Rattle.protocol.specs.declared.Connection.{Connection}
 use Rattle.protocol.specs.Constants.{ANSWER-MIN, AREA, RECORDS}
-use Rattle.protocol.specs.Coding.{Answer}
+use Rattle.protocol.specs.Coding.{Answer, refused, value}
 use Rattle.protocol.specs.SequenceHeader.{encodeHeader}
 use Rattle.protocol.specs.Command.{flagPlaces, encodeCommand}
 use Rattle.protocol.specs.ConnectionRecord.{Reply}
-
--- the numbers of document 01's table
-abbrev pub refusalNumber : Refusal → ℕ
-refusalNumber N.Lent = 1
-refusalNumber N.Image = 2
-refusalNumber N.Table = 3
-refusalNumber N.Clock = 4
-refusalNumber N.Short = 5
-refusalNumber N.Long = 6
-refusalNumber N.Full = 7
-refusalNumber N.Sequence = 8
-refusalNumber N.EmptyCommand = 9
 
 -- "The lowest number is returned": the first of an ordered list of tests that holds
 pub record Test : Type 0 where
@@ -35,6 +25,11 @@ pub record Test : Type 0 where
 pub data Verdict : Type 0 where
   refuse : Refusal → Verdict
   accept : Verdict
+
+-- the values of the code's answer
+abbrev pub toldChecked : Checked → Verdict
+toldChecked (K.Refused x) = refuse x
+toldChecked K.Accepted = accept
 
 unfoldable pub verdict : List Test → Verdict
 verdict [] = accept
@@ -64,3 +59,15 @@ pub record Called (A : Type 0) : Type 0 where
 -- the bytes of an answer
 unfoldable pub frame : Reply → List ℕ
 frame r = encodeHeader (r .header) ++ encodeCommand flagPlaces (r .command)
+
+-- the answer in the lent buffer: "answer buffer under 1,468" is 1, and then it is "untouched"; "An accepted answer leaves bytes past its length as they were."
+abbrev pub answerWritten : Reply → List ℕ → Answer ℕ
+answerWritten r answer = pick (ltb (length answer) ANSWER-MIN) (refused 1) (value (length (frame r)))
+
+abbrev pub answerLeft : Reply → List ℕ → List ℕ
+answerLeft r answer = pick (ltb (length answer) ANSWER-MIN) answer (splice 0 (frame r) answer)
+
+-- an answer's length, and the client that it goes to
+abbrev pub addressed : SdoClientInfo → Answer ℕ → Answer To
+addressed c (refused n) = refused n
+addressed c (value n) = value (record { client = c; size = n })

@@ -5,6 +5,8 @@ use lib.ListN.{length}
 use lib.Dec.{ltb}
 use Rattle.picks.specs.Pick.{pick}
 use Rattle.octets.specs.Octets.{splice}
+use Rattle.protocol.specs.declared.Refusal.{Refusal}
+use Rattle.protocol.specs.declared.Refusal.the-variants as N
 use Rattle.protocol.specs.declared.Written.{Written}
 use Rattle.protocol.specs.declared.Written.the-variants as W
 
@@ -12,6 +14,18 @@ use Rattle.protocol.specs.declared.Written.the-variants as W
 pub data Answer (A : Type 0) : Type 0 where
   refused : ℕ → Answer A
   value : A → Answer A
+
+-- the numbers of document 01's table
+abbrev pub refusalNumber : Refusal → ℕ
+refusalNumber N.Lent = 1
+refusalNumber N.Image = 2
+refusalNumber N.Table = 3
+refusalNumber N.Clock = 4
+refusalNumber N.Short = 5
+refusalNumber N.Long = 6
+refusalNumber N.Full = 7
+refusalNumber N.Sequence = 8
+refusalNumber N.EmptyCommand = 9
 
 -- "Coding into a short buffer returns 1, changing nothing": what is returned, and the buffer afterwards
 abbrev pub written : List ℕ → List ℕ → Answer ℕ

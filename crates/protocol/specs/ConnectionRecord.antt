@@ -20,10 +20,13 @@ use Rattle.protocol.specs.declared.SdoServerState.the-variants.{Closed, 
 use Rattle.protocol.specs.declared.Connection.{Connection}
 use Rattle.protocol.specs.declared.Step.{Step}
 use Rattle.protocol.specs.declared.Step.the-variants as T
+use Rattle.protocol.specs.declared.SdoResponseData.{SdoResponseData}
+use Rattle.protocol.specs.declared.Handled.{Handled}
+use Rattle.protocol.specs.declared.Handled.the-variants as D
 use Rattle.protocol.specs.declared.Resend.{Resend}
 use Rattle.protocol.specs.declared.Resend.the-variants.{Resends, GoesOn}
 use Rattle.protocol.specs.Constants.{INVALID-COMMAND, INVALID-SEQUENCE, GENERAL-ERROR}
-use Rattle.protocol.specs.Coding.{Answer, refused, value}
+use Rattle.protocol.specs.Coding.{Answer, refused, value, refusalNumber}
 use Rattle.protocol.specs.SequenceHeader.{receiveMark, sendMark, next, decodeHeader, commandPart}
 use Rattle.protocol.specs.Command.{Command, Decoding, decoded, undecodable, flagPlaces, decodeCommand, undecodableTransaction, totalNumber, idByte, withPayload}
 use Rattle.protocol.specs.TransferRecord.{Acted, bodyBytes, moved, withState, aborts, replies, advance, readByIndex, writeByIndex, maxSegmentSize, storedPiece}
@@ -40,6 +43,14 @@ pub record Served : Type 0 where
   pub image : List ℕ
   pub said : Answer Reply
 
+-- the values of the code's answers, with the share and the image as they are left
+abbrev pub toldReply : SdoResponseData → List ℕ → List ℕ → Reply
+toldReply r share image = record { header = r .header; command = withPayload (r .command) (bodyBytes share image (r .body)) }
+
+abbrev pub toldHandled : Handled → List ℕ → List ℕ → Served
+toldHandled (D.Answered c r) share image = record { connection = c; share = share; image = image; said = value (toldReply r share image) }
+toldHandled (D.Refused c x) share image = record { connection = c; share = share; image = image; said = refused (refusalNumber x) }
+
 -- before the sequence step: "Receive mark 3 in an upload with a stored piece resends it under send mark 3, before any number is looked at, and changes nothing."; "on receive mark 3, to a resend …, the receive number is the request's send number"
 pub data Before : Type 0 where
   resends : Reply → Before
@@ -47,7 +58,7 @@ pub data Before : Type 0 where
 
 -- the values of the code's answer, whose piece stands in the share
 abbrev pub toldResend : Resend → List ℕ → List ℕ → Before
-toldResend (Resends h p) share image = resends (record { header = h; command = withPayload (p .command) (bodyBytes share image (p .body)) })
+toldResend (Resends r) share image = resends (toldReply r share image)
 toldResend GoesOn share image = goesOn
 
 abbrev pub resent : Connection → List ℕ → SequenceLayerHeader → SdoTransferState → Reply

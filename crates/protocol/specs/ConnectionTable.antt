@@ -16,9 +16,11 @@ use Rattle.protocol.specs.declared.SdoTransferState.{SdoTransferState}
 use Rattle.protocol.specs.declared.SdoServerState.{SdoServerState}
 use Rattle.protocol.specs.declared.SdoServerState.the-variants.{Closed, Opening, Established, SegmentedDownload, SegmentedUpload}
 use Rattle.protocol.specs.declared.Connection.{Connection}
+use Rattle.protocol.specs.declared.RecordTicked.{RecordTicked}
+use Rattle.protocol.specs.declared.RecordTicked.the-variants as K
 use Rattle.protocol.specs.Constants.{PIECE, SHARE, RECORDS, FIRST-MAX, TIMED-OUT}
 use Rattle.protocol.specs.TransferRecord.{withState, reset, abortCommand, storedPiece, deadlineAfter}
-use Rattle.protocol.specs.ConnectionRecord.{Reply}
+use Rattle.protocol.specs.ConnectionRecord.{Reply, toldReply}
 
 -- "ASnd by node and MAC, then UDP by four-byte address and port; the repository's derived order decides."
 abbrev pub before : SdoClientInfo → SdoClientInfo → Bool
@@ -179,6 +181,11 @@ earliest t = fold (λ d r. earlier d (deadlineOf r)) NoDeadline t
 pub data Ticking : Type 0 where
   idle : Ticking
   ticks : Connection → Reply → Ticking
+
+-- the values of the code's answer, whose piece stands in the share
+abbrev pub toldRecordTicked : RecordTicked → List ℕ → List ℕ → Ticking
+toldRecordTicked K.Nothing share image = idle
+toldRecordTicked (K.Answered c r) share image = ticks c (toldReply r share image)
 
 abbrev pub timesOut : Connection → SdoTransferState → Ticking
 timesOut r t =

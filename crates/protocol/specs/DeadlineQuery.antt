@@ -10,9 +10,9 @@ use Rattle.protocol.specs.declared.NextAction.{NextAction}
 use Rattle.protocol.specs.declared.NextAction.the-variants as A
 use Rattle.protocol.specs.declared.Connection.{Connection}
 use Rattle.protocol.specs.Constants.{RECORDS}
-use Rattle.protocol.specs.Coding.{Answer, refused, value}
+use Rattle.protocol.specs.Coding.{Answer, refused, value, refusalNumber}
 use Rattle.protocol.specs.ConnectionTable.{soundTable, earliest}
-use Rattle.protocol.specs.Calls.{refusalNumber, Test, test, Verdict, refuse, accept, verdict}
+use Rattle.protocol.specs.Calls.{Test, test, Verdict, refuse, accept, verdict}
 
 unfoldable pub queryTests : List Connection → List Test
 queryTests table = test (not (eqb (length table) RECORDS)) N.Lent ∷ test (not (soundTable table)) N.Table ∷ []

@@ -9,14 +9,15 @@ use Rattle.octets.specs.Octets.{splice}
 use Rattle.protocol.specs.declared.Refusal.the-variants as N
 use Rattle.protocol.specs.declared.Outcome.{Outcome}
 use Rattle.protocol.specs.declared.Outcome.the-variants as O
+use Rattle.protocol.specs.declared.Requested.{Requested}
 use Rattle.protocol.specs.declared.SdoClientInfo.{SdoClientInfo}
 use Rattle.protocol.specs.declared.Connection.{Connection}
 use Rattle.protocol.specs.Constants.{REQUEST-MAX, CLOCK-MAX}
-use Rattle.protocol.specs.Coding.{Answer, refused, value}
+use Rattle.protocol.specs.Coding.{Answer, refused, value, refusalNumber}
 use Rattle.protocol.specs.DictionaryImage.{soundImage}
 use Rattle.protocol.specs.ConnectionRecord.{Reply, Served, serve}
 use Rattle.protocol.specs.ConnectionTable.{soundTable, recordOf, isKnown, holds, unusedOf, update, join, release, isClosed, shareOf, withShare}
-use Rattle.protocol.specs.Calls.{refusalNumber, Test, test, Verdict, refuse, accept, verdict, lentWrong, To, Called, frame}
+use Rattle.protocol.specs.Calls.{Test, test, Verdict, refuse, accept, verdict, lentWrong, To, Called, frame}
 
 -- 5: "request under 4 bytes"; 6: "request above 1,500"; 7: "eight used records, Closed ones included, none this client's"
 module _ (client : SdoClientInfo) (clock : ℕ) (request image answer : List ℕ) (table : List Connection) (area : List ℕ) where
@@ -54,3 +55,7 @@ module _ (client : SdoClientInfo) (clock : ℕ) (request image answer : List ℕ
 abbrev pub toldOutcome : Outcome → Answer To
 toldOutcome (O.Refused x) = refused (refusalNumber x)
 toldOutcome (O.Answered c n) = value (record { client = c; size = n })
+
+-- what the code returns, with all that was lent to it as it is left
+abbrev pub toldRequested : Requested → List ℕ → List ℕ → List ℕ → Called To
+toldRequested r answer area image = record { returned = toldOutcome (r .outcome); answer = answer; table = r .table; area = area; image = image }

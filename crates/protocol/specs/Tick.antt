@@ -8,12 +8,13 @@ use Rattle.octets.specs.Octets.{splice}
 use Rattle.protocol.specs.declared.Refusal.the-variants as N
 use Rattle.protocol.specs.declared.Ticked.{Ticked}
 use Rattle.protocol.specs.declared.Ticked.the-variants as K
+use Rattle.protocol.specs.declared.TickedRow.{TickedRow}
 use Rattle.protocol.specs.declared.Connection.{Connection}
 use Rattle.protocol.specs.Constants.{CLOCK-MAX}
-use Rattle.protocol.specs.Coding.{Answer, refused, value}
+use Rattle.protocol.specs.Coding.{Answer, refused, value, refusalNumber}
 use Rattle.protocol.specs.DictionaryImage.{soundImage}
 use Rattle.protocol.specs.ConnectionTable.{soundTable, fresh, release, isClosed, shareOf, chosen, Ticking, idle, ticks, tickRecord}
-use Rattle.protocol.specs.Calls.{refusalNumber, Test, test, Verdict, refuse, accept, verdict, lentWrong, To, Called, frame}
+use Rattle.protocol.specs.Calls.{Test, test, Verdict, refuse, accept, verdict, lentWrong, To, Called, frame}
 
 -- whom a tick answered
 pub data Told : Type 0 where
@@ -53,3 +54,7 @@ abbrev pub toldTicked : Ticked → Answer Told
 toldTicked (K.Refused x) = refused (refusalNumber x)
 toldTicked K.Nothing = value nobody
 toldTicked (K.Answered c n) = value (somebody (record { client = c; size = n }))
+
+-- what the code returns, with all that was lent to it as it is left
+abbrev pub toldTickedRow : TickedRow → List ℕ → List ℕ → List ℕ → Called Told
+toldTickedRow r answer area image = record { returned = toldTicked (r .outcome); answer = answer; table = r .table; area = area; image = image }

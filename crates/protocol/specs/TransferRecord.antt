@@ -46,6 +46,17 @@ bodyBytes share image (B.Share at n) = take n (drop at share)
 bodyBytes share image (B.Code code) = leBytes 4 code
 bodyBytes share image (B.Sizes a b) = leBytes 2 a ++ leBytes 2 b
 
+-- an abort code and the two sizes stand in neither
+abbrev pub isPart : Body → Bool
+isPart B.Nothing = true
+isPart (B.Image at n) = true
+isPart (B.Share at n) = true
+isPart (B.Code code) = false
+isPart (B.Sizes a b) = false
+
+abbrev pub bodyPart : List ℕ → List ℕ → Body → List ℕ
+bodyPart share image b = pick (isPart b) (bodyBytes share image b) []
+
 -- the values of the code's answer, with the share and the image as they are left
 abbrev pub toldAction : Action → List ℕ → List ℕ → Acted
 toldAction a share image = record { connection = a .connection; share = share; image = image; command = withPayload (a .command) (bodyBytes share image (a .body)) }

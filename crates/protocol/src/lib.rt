@@ -190,9 +190,16 @@ pub enum Step {
     Misfit(Connection),
 }
 
+// An answer: its header, its command, and where its payload stands. The client it goes to stands in the record.
+pub struct SdoResponseData {
+    pub header: SequenceLayerHeader, // seq_header
+    pub command: SdoCommand,
+    pub body: Body,
+}
+
 // What stands before the sequence step: a resend of the stored piece, or nothing.
 pub enum Resend {
-    Resends(SequenceLayerHeader, Piece),
+    Resends(SdoResponseData),
     GoesOn,
 }
 
@@ -207,6 +214,18 @@ pub enum Refusal {
     Full,
     Sequence,
     EmptyCommand,
+}
+
+// What a request leaves of a record, and what is said to it: an answer, or a refusal.
+pub enum Handled {
+    Answered(Connection, SdoResponseData),
+    Refused(Connection, Refusal),
+}
+
+// What a tick makes of a record that is due: nothing, or the record after it and the answer.
+pub enum RecordTicked {
+    Nothing,
+    Answered(Connection, SdoResponseData),
 }
 
 // What handle_request answers: a refusal, or the client and the answer's length.
@@ -227,4 +246,22 @@ pub enum NextAction {
     Refused(Refusal),
     Nothing,
     At(u64),
+}
+
+// What the refusals' tests answer.
+pub enum Checked {
+    Refused(Refusal),
+    Accepted,
+}
+
+// What handle_request answers with the row of eight by value: the outcome, and the row after it.
+pub struct Requested {
+    pub outcome: Outcome,
+    pub table: [Connection; 8],
+}
+
+// What tick answers with the row of eight by value: the outcome, and the row after it.
+pub struct TickedRow {
+    pub outcome: Ticked,
+    pub table: [Connection; 8],
 }
