@@ -183,8 +183,8 @@ fn flags(h: CommandLayerHeader) -> u8
     bit_of(h.response) * 16 + bit_of(h.aborted) * 32 + segmentation_number(s) * 64
 }
 
-// The number in bytes 8 to 11 of an Initiate.
-fn total_number(d: DataSize) -> u32
+// The number in bytes 8 to 11 of an Initiate, 0 without one.
+pub fn total_number(d: DataSize) -> u32
     ensures { λ r. ⌜ r ≡ totalNumber d ⌝ }
 {
     match d {
@@ -224,12 +224,23 @@ fn put_total(s: Segmentation, d: DataSize, buffer: &mut [u8])
     }
 }
 
+// Writes the command with its payload at the start of the buffer, as far as the buffer goes; its other bytes stay.
+pub fn store(c: SdoCommand, payload: &[u8], buffer: &mut [u8])
+    ensures { λ _. ⌜ now (buffer .exit) ≡ splice 0 (encodeCommand flagPlaces (withPayload c (now (payload .entry)))) (now (buffer .entry)) ⌝ }
+{
+    let h = c.header;
+    let total = c.total;
+    let s = h.segmentation;
+    put_header(h, buffer);
+    put_total(s, total, buffer);
+    octets::copy_at(buffer, header_length(s), payload);
+}
+
 // Writes the command with its payload at the start of the buffer, whose other bytes stay. A buffer that is too short stays whole.
 pub fn serialize(c: SdoCommand, payload: &[u8], buffer: &mut [u8]) -> Written
     ensures { λ r. ⌜ toldWritten r ≡ written (encodeCommand flagPlaces (withPayload c (now (payload .entry)))) (now (buffer .entry)) ⌝ ∗ ⌜ now (buffer .exit) ≡ put (encodeCommand flagPlaces (withPayload c (now (payload .entry)))) (now (buffer .entry)) ⌝ }
 {
     let h = c.header;
-    let total = c.total;
     let s = h.segmentation;
     let n = header_length(s);
     if buffer.len() < n {
@@ -238,8 +249,6 @@ pub fn serialize(c: SdoCommand, payload: &[u8], buffer: &mut [u8]) -> Written
     if buffer.len() - n < payload.len() {
         return Written::BufferTooShort;
     }
-    put_header(h, buffer);
-    put_total(s, total, buffer);
-    octets::copy_at(buffer, n, payload);
+    store(c, payload, buffer);
     Written::Bytes(n + payload.len())
 }

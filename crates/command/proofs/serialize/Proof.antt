@@ -1,6 +1,6 @@
 use Rattle.protocol.specs.Command.{flagPlaces, encodeCommand, withPayload}
 use Rattle.protocol.proofs.Coding.{put-short, put-fits}
-use Rattle.protocol.proofs.Command.{encoded-length, stored-command}
+use Rattle.protocol.proofs.Command.{encoded-length}
 use borrow.Author.Needs.{needs}
 use native.Mathlib.Omega.{arith}
 use Rattle.command.proofs.serialize.Statement.{statement}
@@ -22,15 +22,11 @@ returns-2 c =
 
 returns-3 : tie.Need-returns-3
 returns-3 c =
-    let u = c .before .before .before .before .before .before in
-    let v = u .before .before .before .before in
-    let x = v .before .before in
-    let a = x .before .before .before .before .before .before .args in
+    let a = c .before .before .before .before .before .before .before .before .before .before .args in
     let w = withPayload (a .c) (a .payload .now) in
-    let e = x .before .before .header-length .ensures in
+    let e = c .before .before .before .before .before .before .header-length .ensures in
     let l = encoded-length flagPlaces w in
-    put-fits (encodeCommand flagPlaces w) (a .buffer .now) _ _ (omega arith) (omega arith)
-    (rw (← stored-command flagPlaces (a .c) (a .payload .now) (a .buffer .now), ← v .put-header .ensures, ← u .put-total .ensures, ← e) (c .before .before .copy-at .ensures))
+    put-fits (encodeCommand flagPlaces w) (a .buffer .now) _ _ (omega arith) (omega arith) (c .before .before .store .ensures)
 
 pub serialize-spec : {M : Type 1} → statement M
 serialize-spec =
@@ -40,8 +36,6 @@ serialize-spec =
     returns
     (λ c. search needs)
     returns-2
-    (λ c κs. search needs)
-    (λ c κs. search needs)
     (λ c κs. search needs)
     (λ c. search needs)
     (λ c. search needs)
