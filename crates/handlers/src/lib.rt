@@ -21,7 +21,7 @@ ghost use Rattle.picks.specs.Pick.{pick};
 ghost use Rattle.octets.specs.Octets.{le};
 ghost use Rattle.protocol.specs.Constants.{OFFSET-MAX};
 ghost use Rattle.protocol.specs.DictionaryImage.{valueOf};
-ghost use Rattle.protocol.specs.TransferRecord.{bodyBytes, toldAction, aborts, replies, newUpload, readValue, readByIndex, writeObject, writeExpedited, newDownload, writeInitiate, writeSegment, writeComplete, downloadStep, writeData, writeByIndex, maxSegmentSize};
+ghost use Rattle.protocol.specs.TransferRecord.{bodyBytes, bodyPart, toldAction, aborts, replies, newUpload, readValue, readByIndex, writeObject, writeExpedited, newDownload, writeInitiate, writeSegment, writeComplete, downloadStep, writeData, writeByIndex, maxSegmentSize};
 
 // An abort: the record is closed and its numbers are reset.
 pub fn abort(c: Connection, transaction: u8, code: u32) -> Action
@@ -413,4 +413,17 @@ pub fn max_segment_size(c: Connection, transaction: u8, payload: &[u8]) -> Actio
     ensures { λ r. ⌜ ((share image : List ℕ) → toldAction r share image ≡ maxSegmentSize c share image transaction (now (payload .entry))) ⌝ }
 {
     reply(c, transaction, 4, Body::Sizes(client_size(payload), 1452))
+}
+
+// An answer's payload as a part of the image for an Expedited answer, and as a part of the client's share for a piece; one made of numbers stands in neither.
+pub fn payload<'a>(share: &'a [u8], image: &'a [u8], body: Body) -> &'a [u8]
+    ensures { λ r. ⌜ now r ≡ bodyPart (now (share .entry)) (now (image .entry)) body ⌝ }
+{
+    match body {
+        Body::Nothing => octets::part(image, 0, 0),
+        Body::Image(at, n) => octets::part(image, at as usize, n as usize),
+        Body::Share(at, n) => octets::part(share, at as usize, n as usize),
+        Body::Code(code) => octets::part(image, 0, 0),
+        Body::Sizes(a, b) => octets::part(image, 0, 0),
+    }
 }
