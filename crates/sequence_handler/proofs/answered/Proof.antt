@@ -1,0 +1,12 @@
+-- The mark alone is computed.
+use Rattle.protocol.specs.ConnectionRecord.{answered}
+use borrow.Author.Needs.{needs}
+use Rattle.sequence_handler.proofs.answered.Statement.{statement}
+use Rattle.sequence_handler.proofs.answered.Tie as tie
+
+returns : tie.Need-returns
+unfolding answered
+returns c = λ share image. rw (c .answer-mark .ensures)
+
+pub answered-spec : {M : Type 1} → statement M
+answered-spec = tie.close (tie.spec (λ c κs. search needs) returns)
