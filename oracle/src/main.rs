@@ -21,15 +21,17 @@ compile_error!("the scripts have clients over UDP: build with the feature sdo-ud
 // in name the error by this path too.
 pub use hal::PowerlinkError;
 
+use std::fs::File;
 use std::io::{self, BufReader, BufWriter, Write};
 use std::process::ExitCode;
 
+use replay::Trouble;
 use stream::Fault;
 
 const USAGE: &str = "usage: oracle codec-all | codec-items SEED COUNT | codec-sample | \
                      codec < ITEMS | short-buffer | \
                      replay-script SEED COUNT one|series|tables|images|wild | replay-sample | \
-                     replay < SCRIPT";
+                     replay < SCRIPT | coverage < SCRIPT | differ SCRIPT RUST PORT";
 
 const BLOCK: usize = 1 << 16;
 
@@ -66,6 +68,11 @@ fn main() -> ExitCode {
             let script = BufReader::with_capacity(BLOCK, io::stdin().lock());
             replay::run(script, &mut out).map_err(stopped)
         }
+        ["coverage"] => {
+            let script = BufReader::with_capacity(BLOCK, io::stdin().lock());
+            replay::coverage(script, &mut out).map_err(stopped)
+        }
+        ["differ", script, left, right] => differ(script, left, right, &mut out),
         ["short-buffer"] => codec::short_buffer(&mut out).map_err(failed),
         _ => return usage(),
     };
@@ -74,9 +81,26 @@ fn main() -> ExitCode {
     match result {
         Ok(()) => ExitCode::SUCCESS,
         Err(line) => {
-            eprintln!("oracle: {line}");
+            if !line.is_empty() {
+                eprintln!("oracle: {line}");
+            }
             ExitCode::FAILURE
         }
+    }
+}
+
+/// Silent if the transcripts in these files are equal.
+fn differ(script: &str, left: &str, right: &str, out: &mut impl Write) -> Result<(), String> {
+    let open = |name: &str| match File::open(name) {
+        Ok(file) => Ok(BufReader::with_capacity(BLOCK, file)),
+        Err(error) => Err(format!("{name}: {error}")),
+    };
+    match replay::differ(open(script)?, open(left)?, open(right)?, out) {
+        Ok(true) => Ok(()),
+        // The difference is written; there is no more to say.
+        Ok(false) => Err(String::new()),
+        Err(Trouble::Script(at, fault)) => Err(stopped((at, fault))),
+        Err(Trouble::Io(error)) => Err(error.to_string()),
     }
 }
 

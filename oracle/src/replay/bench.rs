@@ -173,9 +173,20 @@ impl Bench {
             .map_or(Outcome::Nothing, Outcome::Deadline)
     }
 
+    /// Whether no request is refused for what is lent.
+    pub fn is_served(&self) -> bool {
+        self.refusal_of_lent().is_none()
+    }
+
     /// The numbers 1 to 4, the lowest first.
     fn refusal(&mut self, clock: u64) -> Option<u8> {
         self.fill_answer();
+        let late = (clock > MAX_CLOCK).then_some(4);
+        self.refusal_of_lent().or(late)
+    }
+
+    /// The numbers 1 to 3.
+    fn refusal_of_lent(&self) -> Option<u8> {
         let Lengths {
             answer,
             area,
@@ -187,8 +198,6 @@ impl Bench {
             Some(2)
         } else if self.around.is_none() {
             Some(3)
-        } else if clock > MAX_CLOCK {
-            Some(4)
         } else {
             None
         }

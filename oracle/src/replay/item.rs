@@ -33,6 +33,11 @@ pub struct Lengths {
 }
 
 impl Item {
+    /// Calls have a part in the transcript; the other items only lend.
+    pub fn is_call(&self) -> bool {
+        matches!(self, Self::Request { .. } | Self::Tick(_) | Self::Query)
+    }
+
     /// The next item, or nothing at the end of the script.
     pub fn read(fields: &mut Fields<impl Read>) -> Result<Option<Self>, Fault> {
         let Some(number) = fields.first()? else {

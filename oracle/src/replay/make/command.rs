@@ -99,14 +99,9 @@ fn key(rng: &mut Rng, entries: &[Entry]) -> (u16, u8, Option<Entry>) {
 pub fn any(rng: &mut Rng, transaction: u8, sound_image: Option<&[u8]>, strange: bool) -> Command {
     let entries = sound_image.map(image::entries).unwrap_or_default();
     if strange && rng.one_in(3) {
-        let payload = key(rng, &entries);
-        let payload = name(payload.0, payload.1, 0);
-        return Command::new(
-            transaction,
-            rng.pick(&[0, 0, 1, 2, 3]),
-            rng.pick(&OTHERS),
-            payload,
-        );
+        let mut other = other_id(rng, &entries);
+        other.transaction = transaction;
+        return other;
     }
     match rng.within(0, 19) {
         0..=9 => any_read(rng, transaction, &entries),
@@ -123,16 +118,28 @@ pub fn any(rng: &mut Rng, transaction: u8, sound_image: Option<&[u8]>, strange: 
         }
         18 => {
             let length = rng.pick(&[0, 0, 4]);
-            Command::new(transaction, rng.pick(&[0, 0, 0, 3]), NIL, rng.bytes(length))
+            let segmentation = rng.weighted(&[(4, 0), (1, 1), (1, 2), (1, 3)]);
+            Command::new(transaction, segmentation, NIL, rng.bytes(length))
         }
-        _ => Command::new(transaction, EXPEDITED, ABORT, rng.bytes(4)),
+        _ => {
+            let segmentation = rng.weighted(&[(3, 0), (1, 1), (1, 2), (1, 3)]);
+            Command::new(transaction, segmentation, ABORT, rng.bytes(4))
+        }
     }
+}
+
+/// A known id outside the domain of comparison.
+pub fn other_id(rng: &mut Rng, entries: &[Entry]) -> Command {
+    let (index, sub_index, _) = key(rng, entries);
+    let payload = name(index, sub_index, 0);
+    let (segmentation, id) = (rng.within(0, 3) as u8, rng.pick(&OTHERS));
+    Command::new(any_transaction(rng), segmentation, id, payload)
 }
 
 fn any_read(rng: &mut Rng, transaction: u8, entries: &[Entry]) -> Command {
     let long: Vec<Entry> = entries
         .iter()
-        .filter(|e| e.length > PIECE)
+        .filter(|e| e.length >= PIECE)
         .copied()
         .collect();
     let (mut index, mut sub_index, _) = key(rng, entries);
@@ -204,6 +211,135 @@ pub fn part(rng: &mut Rng, transfer: &Transfer) -> Command {
         false => rng.weighted(&[(1, COMPLETE), (2, SEGMENT)]),
     };
     Command::new(transfer.transaction, segmentation, WRITE, rng.bytes(length))
+}
+
+/// Whether an Expedited write can change the entry.
+pub fn takes_expedited(entry: &Entry) -> bool {
+    !entry.is_read_only() && (entry.is_variable() || entry.capacity <= MOST - 4)
+}
+
+/// An Expedited write that the entry takes, if one frame can hold it.
+pub fn fitting_write(rng: &mut Rng, entry: &Entry) -> Command {
+    let most = entry.capacity.min(MOST - 4);
+    let some = rng.within(0, most);
+    let length = match entry.is_variable() {
+        true => rng.pick(&[most, most, some, 0]),
+        false => most,
+    };
+    let mut payload = name(entry.index, entry.sub_index, 0);
+    payload.extend(rng.bytes(length));
+    Command::new(any_transaction(rng), EXPEDITED, WRITE, payload)
+}
+
+/// What an upload aborts: a new command of its transaction, or another one's.
+pub fn against_upload(rng: &mut Rng, transaction: u8) -> Command {
+    let segmentation = rng.within(0, 3) as u8;
+    let id = rng.pick(&[READ, WRITE, ABORT, MAX_SEGMENT_SIZE, 0x04, 0x32]);
+    let mut command = Command::new(transaction, segmentation, id, name(0x2000, 0, 0));
+    if rng.one_in(2) {
+        command.transaction = transaction.wrapping_add(rng.pick(&[1, 255, 16]));
+        command.bits = rng.pick(&[0, RESPONSE]);
+        command.id = rng.pick(&[NIL, NIL, id]);
+    }
+    command
+}
+
+/// A download's Initiate with a total that the entry takes, and the first
+/// part of the data.
+pub fn initiate(rng: &mut Rng, entry: &Entry) -> Command {
+    let total = match entry.is_variable() {
+        true => rng.within(1, entry.capacity),
+        false => entry.capacity,
+    };
+    let length = rng.within(0, total.min(MOST_INITIATE - 4));
+    let mut payload = name(entry.index, entry.sub_index, 0);
+    payload.extend(rng.bytes(length));
+    let mut command = Command::new(any_transaction(rng), INITIATE, WRITE, payload);
+    command.total = total as u32;
+    command
+}
+
+/// A part that fits, `last` if it can be.
+pub fn good_part(rng: &mut Rng, transfer: &Transfer, last: bool) -> Command {
+    let left = (transfer.total - transfer.offset) as usize;
+    let (segmentation, length) = match last && left <= MOST {
+        true => (COMPLETE, left),
+        false if last => (SEGMENT, MOST),
+        false => (SEGMENT, rng.within(0, left.min(MOST))),
+    };
+    Command::new(transfer.transaction, segmentation, WRITE, rng.bytes(length))
+}
+
+/// A command that is aborted where no transfer runs: one way as often as
+/// another, as far as the image has entries for it.
+pub fn aborted(rng: &mut Rng, entries: &[Entry]) -> Vec<u8> {
+    let transaction = any_transaction(rng);
+    let any = match entries.is_empty() {
+        true => (0x2000, 0),
+        false => rng.pick(entries).key(),
+    };
+    let segmentation = rng.within(0, 3) as u8;
+    let short = rng.bytes(3)[..rng.within(0, 3)].to_vec();
+    let command = match rng.within(0, 14) {
+        0 => Command::new(transaction, segmentation, READ, short),
+        1 => Command::new(transaction, EXPEDITED, WRITE, short),
+        2 => Command::new(transaction, INITIATE, WRITE, short),
+        3 => Command::new(transaction, segmentation, ABORT, short),
+        4 => Command::new(transaction, rng.pick(&[SEGMENT, COMPLETE]), WRITE, short),
+        5 | 10 => {
+            let mut command = Command::new(transaction, INITIATE, WRITE, name(any.0, any.1, 0));
+            command.total = rng.pick(&[8_193, 8_193, 65_536, u32::MAX]);
+            command
+        }
+        6 => Command::new(transaction, INITIATE, WRITE, name(any.0, any.1, 0)),
+        7 | 8 => missing(rng, transaction, any),
+        9 => {
+            let mut bytes = read(transaction, any.0, any.1).bytes();
+            bytes[0] = rng.u8();
+            spoil(rng, &mut bytes);
+            return bytes;
+        }
+        _ => misfit(rng, transaction, entries),
+    };
+    command.bytes()
+}
+
+/// A read or an Expedited write of what the image has not.
+fn missing(rng: &mut Rng, transaction: u8, (index, sub_index): (u16, u8)) -> Command {
+    let (index, sub_index) = match rng.one_in(2) {
+        true => (rng.pick(&[0x0FFF, 0x1F00, 0xFFFF]), sub_index),
+        false => (index, rng.pick(&[3, 77, 253])),
+    };
+    let mut command = read(transaction, index, sub_index);
+    if rng.one_in(2) {
+        command.id = WRITE;
+        command.payload.extend(rng.bytes(4));
+    }
+    command
+}
+
+/// An Expedited write that an entry does not take: too long, too short or
+/// read-only.
+fn misfit(rng: &mut Rng, transaction: u8, entries: &[Entry]) -> Command {
+    let kind = rng.within(0, 2);
+    let fits = |entry: &&Entry| match kind {
+        0 => entry.is_read_only() && entry.capacity <= MOST - 4,
+        1 => !entry.is_variable(),
+        _ => entry.capacity < MOST - 4,
+    };
+    let suited: Vec<&Entry> = entries.iter().filter(fits).collect();
+    if suited.is_empty() {
+        return missing(rng, transaction, (0x2000, 0));
+    }
+    let entry = rng.pick(&suited);
+    let length = match kind {
+        0 => entry.capacity,
+        1 => rng.within(0, (entry.capacity - 1).min(MOST - 4)),
+        _ => entry.capacity + rng.pick(&[1, 1, MOST - 4 - entry.capacity]),
+    };
+    let mut payload = name(entry.index, entry.sub_index, 0);
+    payload.extend(rng.bytes(length.min(MOST - 4)));
+    Command::new(transaction, EXPEDITED, WRITE, payload)
 }
 
 /// Spoils the bytes of a command so that most cannot be decoded.

@@ -2,18 +2,11 @@
 //! something else about it.
 
 use super::command::{self, ABORTED, Command, RESPONSE};
-use crate::replay::bench::REQUEST;
+use crate::replay::bench::{Bench, REQUEST};
+use crate::replay::head::Head;
 use crate::replay::record::{FIRST_RECEIVE, FIRST_SEND, Record, State};
 use crate::rng::Rng;
-
-/// A sequence header: numbers below 64, marks below 4.
-#[derive(Clone, Copy)]
-pub struct Head {
-    pub receive: u8,
-    pub receive_mark: u8,
-    pub send: u8,
-    pub send_mark: u8,
-}
+use crate::sdo::server::SdoClientInfo;
 
 impl Head {
     /// What a client with this record, or none, would send next.
@@ -37,17 +30,6 @@ impl Head {
             },
         }
     }
-
-    pub fn frame(&self, command: &[u8]) -> Vec<u8> {
-        let mut bytes = vec![
-            self.receive << 2 | self.receive_mark,
-            self.send << 2 | self.send_mark,
-            0,
-            0,
-        ];
-        bytes.extend(command);
-        bytes
-    }
 }
 
 /// What a request is made from.
@@ -58,6 +40,18 @@ pub struct Scene<'a> {
     pub noise: usize,
     /// Whether commands outside the domain of comparison may come.
     pub strange: bool,
+}
+
+impl<'a> Scene<'a> {
+    /// Where this client stands, with nothing wrong or strange.
+    pub fn of(bench: &'a Bench, client: &SdoClientInfo) -> Self {
+        Self {
+            record: bench.record(client),
+            sound_image: bench.sound_image(),
+            noise: usize::MAX,
+            strange: false,
+        }
+    }
 }
 
 pub fn request(rng: &mut Rng, scene: &Scene) -> Vec<u8> {
@@ -89,6 +83,40 @@ pub fn request(rng: &mut Rng, scene: &Scene) -> Vec<u8> {
         bytes[3] = rng.u8();
     }
     bytes
+}
+
+/// Any marks, each as often as the others; numbers and command mostly those
+/// that matter.
+pub fn any(rng: &mut Rng, scene: &Scene) -> Vec<u8> {
+    let (send, receive) = match scene.record {
+        Some(record) => (record.send % 64, record.receive % 64),
+        None => (FIRST_SEND, FIRST_RECEIVE),
+    };
+    let (some, other) = (any_number(rng), any_number(rng));
+    let head = Head {
+        receive: rng.weighted(&[(3, send), (1, some)]),
+        receive_mark: rng.within(0, 3) as u8,
+        send: rng.weighted(&[(4, (receive + 1) % 64), (2, receive), (1, other)]),
+        send_mark: rng.within(0, 3) as u8,
+    };
+    let state = scene.record.map_or(State::Closed, |record| record.state);
+    let body = match rng.within(0, 9) {
+        0..=2 => Vec::new(),
+        3..=5 => awaited_body(rng, scene, &state),
+        6 => {
+            let transaction = command::any_transaction(rng);
+            let mut command = command::acknowledge(rng, transaction);
+            command.bits |= ABORTED;
+            command.bytes()
+        }
+        7 => {
+            let mut bytes = any_body(rng, scene);
+            command::spoil(rng, &mut bytes);
+            bytes
+        }
+        _ => any_body(rng, scene),
+    };
+    head.frame(&body)
 }
 
 /// What random changes seldom hit together.

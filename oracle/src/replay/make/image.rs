@@ -1,6 +1,9 @@
 //! Images for scripts: sound ones, and ones with one thing wrong.
 
-use crate::od::image::{Content, MAX_CAPACITY, MAX_IMAGE, READ_ONLY, VARIABLE, build};
+use crate::od::image::{
+    Content, MAX_CAPACITY, MAX_IMAGE, READ_ONLY, VARIABLE, build, entries, find,
+};
+use crate::replay::state::PIECE;
 use crate::rng::Rng;
 
 pub const TIMEOUT: u16 = 0x1300;
@@ -12,9 +15,9 @@ pub const INDEXES: [u16; 8] = [
 ];
 
 /// Around the lengths at which answers change.
-const LONG: [usize; 14] = [
-    1_451, 1_452, 1_453, 1_454, 2_903, 2_904, 2_905, 4_356, 4_357, 5_808, 7_260, 7_261, 8_191,
-    8_192,
+const LONG: [usize; 16] = [
+    1_451, 1_452, 1_453, 1_484, 2_903, 2_904, 2_905, 4_356, 4_357, 5_808, 5_809, 7_000, 7_260,
+    7_261, 8_191, 8_192,
 ];
 const SHORT: [usize; 8] = [0, 1, 2, 3, 4, 5, 8, 100];
 
@@ -40,7 +43,8 @@ fn setting(rng: &mut Rng, index: u16) -> Content {
 }
 
 fn entry(rng: &mut Rng, (index, sub_index): (u16, u8), long: bool) -> Content {
-    let flags = rng.weighted(&[(4, 0), (4, VARIABLE), (1, READ_ONLY), (1, 3)]);
+    let fixed = if long { 2 } else { 4 };
+    let flags = rng.weighted(&[(fixed, 0), (4, VARIABLE), (1, READ_ONLY), (1, 3)]);
     let length = match long {
         true => rng.pick(&LONG),
         false => rng.pick(&SHORT),
@@ -97,6 +101,27 @@ fn contents(rng: &mut Rng, long: usize) -> Vec<Content> {
 pub fn sound(rng: &mut Rng) -> Vec<u8> {
     let long = rng.weighted(&[(4, 0), (6, 1), (3, 2), (1, 4)]);
     build(&contents(rng, long))
+}
+
+/// A sound image with a value of several pieces.
+pub fn sound_with_long(rng: &mut Rng) -> Vec<u8> {
+    loop {
+        let long = rng.pick(&[1, 2, 3]);
+        let image = build(&contents(rng, long));
+        if entries(&image).iter().any(|entry| entry.length > PIECE) {
+            return image;
+        }
+    }
+}
+
+/// The image with every byte of this entry's value another one, as the
+/// device itself might have changed it.
+pub fn touched(image: &[u8], key: (u16, u8)) -> Option<Vec<u8>> {
+    let entry = find(image, key.0, key.1)?;
+    let value: Vec<u8> = entry.value(image).iter().map(|byte| !byte).collect();
+    let mut image = image.to_vec();
+    entry.put(&mut image, &value);
+    Some(image)
 }
 
 /// A sound image at a border: no entry, very many, or the greatest size.

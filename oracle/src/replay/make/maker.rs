@@ -3,13 +3,14 @@
 use std::io::{self, Write};
 
 use super::command;
-use super::frame::{self, Head, Scene};
+use super::frame::{self, Scene};
 use super::image;
 use super::profile::Profile;
 use super::table;
 use crate::od::image::entries;
 use crate::replay::area::AREA;
 use crate::replay::bench::{ANSWER, Bench, MAX_CLOCK};
+use crate::replay::head::Head;
 use crate::replay::item::{Item, Lengths};
 use crate::replay::record::State;
 use crate::replay::table::RECORDS;
@@ -18,8 +19,8 @@ use crate::sdo::server::SdoClientInfo;
 use crate::stream::Progress;
 
 pub struct Maker<'a, W> {
-    profile: Profile,
-    rng: Rng,
+    pub profile: Profile,
+    pub rng: Rng,
     pub bench: Bench,
     out: &'a mut W,
     progress: Progress,
@@ -29,7 +30,7 @@ pub struct Maker<'a, W> {
     pub clients: Vec<SdoClientInfo>,
     /// For how many steps the next three stay.
     era: usize,
-    active: usize,
+    pub active: usize,
     noise: usize,
     ticks: usize,
     short_lengths: bool,
@@ -67,12 +68,12 @@ impl<'a, W: Write> Maker<'a, W> {
         self.put(Item::Image(image))
     }
 
-    /// Plays and writes an item; a call beyond the count is left out.
+    /// Plays and writes an item; what comes after the last call is left out.
     pub fn put(&mut self, item: Item) -> io::Result<()> {
-        if matches!(item, Item::Request { .. } | Item::Tick(_) | Item::Query) {
-            if self.left == 0 {
-                return Ok(());
-            }
+        if self.left == 0 {
+            return Ok(());
+        }
+        if item.is_call() {
             self.left -= 1;
         }
         self.bench.apply(&item);
@@ -94,25 +95,47 @@ impl<'a, W: Write> Maker<'a, W> {
             self.noise = self.rng.pick(self.profile.noise);
             self.ticks = self.rng.pick(&[5, 12, 40]);
             self.rng.shuffle(&mut self.clients);
+            if self.rng.one_in(6) {
+                // The clock is set back, or at most a little on.
+                let some = self.rng.within(0, 1_000_000_000) as u64;
+                self.now = self.rng.pick(&[0, some, self.now / 2]);
+            }
         }
         self.era -= 1;
         self.lend()?;
         if self.rng.one_in(500) {
             return self.long_connection();
         }
-        if self.rng.one_in(30) {
+        if self.once_in(self.profile.scenario) {
+            let scenario = self.rng.weighted(self.profile.scenarios);
+            return self.scenario(scenario);
+        }
+        let queries = if self.short_lengths { 6 } else { 30 };
+        if self.rng.one_in(queries) {
             return self.put(Item::Query);
         }
         if self.once_in(self.ticks) {
-            let clock = self.clock(2);
+            let clock = match self.rng.one_in(25) {
+                true => self.odd_clock(),
+                false => self.clock(2),
+            };
             return self.put(Item::Tick(clock));
         }
-        let client = self.clients[self.rng.within(0, self.active - 1)];
+        let client = self.any_client();
         let bytes = match self.once_in(self.profile.random) {
             true => self.random_bytes(),
             false => self.next_request(&client),
         };
         self.ask(client, bytes)
+    }
+
+    pub fn any_client(&mut self) -> SdoClientInfo {
+        self.clients[self.rng.within(0, self.active - 1)]
+    }
+
+    /// Whether a request can be more than refused for what is lent.
+    pub fn is_served(&self) -> bool {
+        self.left > 0 && self.bench.is_served()
     }
 
     /// Another image, table, area or other lengths now and then.
@@ -171,12 +194,8 @@ impl<'a, W: Write> Maker<'a, W> {
 
     fn lend_table(&mut self) -> io::Result<()> {
         let entries = self.bench.sound_image().map(entries).unwrap_or_default();
-        let keys: Vec<_> = entries
-            .iter()
-            .map(|entry| (entry.index, entry.sub_index, entry.capacity as u32))
-            .collect();
         let clients = &self.clients[..self.active];
-        let mut table = table::sound(&mut self.rng, self.now, clients, &keys);
+        let mut table = table::sound(&mut self.rng, self.now, clients, &entries);
         if self.once_in(self.profile.spoilt_table) {
             table::spoil(&mut self.rng, &mut table);
         }
@@ -184,25 +203,34 @@ impl<'a, W: Write> Maker<'a, W> {
     }
 
     /// Mostly a little later; once in `n` times about a deadline.
-    fn clock(&mut self, n: usize) -> u64 {
+    pub fn clock(&mut self, n: usize) -> u64 {
         let deadline = self.bench.deadline().filter(|_| self.rng.one_in(n));
         if let Some(deadline) = deadline {
             let (before, after) = (deadline.saturating_sub(1), deadline.saturating_add(1));
             let clock = self.rng.pick(&[before, deadline, after]);
-            // Far ones leave the time as it is.
-            if clock < 1 << 60 {
-                self.now = self.now.max(clock);
-            }
-            return clock;
+            return self.at_time(clock);
         }
-        if self.rng.one_in(100) {
-            let any = self.rng.u64();
-            let last = MAX_CLOCK;
-            return self.rng.pick(&[0, 1, last, last, last + 1, u64::MAX, any]);
+        if self.rng.one_in(60) {
+            return self.odd_clock();
         }
         let step = self.rng.pick(&[0, 1, 1_000, 50_000, 3_000_000]);
         self.now += self.rng.within(0, step) as u64;
         self.now
+    }
+
+    /// The first, the last, or one beyond.
+    fn odd_clock(&mut self) -> u64 {
+        let any = self.rng.u64();
+        let last = MAX_CLOCK;
+        self.rng.pick(&[0, 1, last, last, last + 1, u64::MAX, any])
+    }
+
+    /// It is this time now; far ones leave the time as it is.
+    pub fn at_time(&mut self, clock: u64) -> u64 {
+        if clock < 1 << 60 {
+            self.now = self.now.max(clock);
+        }
+        clock
     }
 
     pub fn ask(&mut self, client: SdoClientInfo, bytes: Vec<u8>) -> io::Result<()> {
@@ -214,13 +242,12 @@ impl<'a, W: Write> Maker<'a, W> {
         })
     }
 
-    fn next_request(&mut self, client: &SdoClientInfo) -> Vec<u8> {
+    pub fn next_request(&mut self, client: &SdoClientInfo) -> Vec<u8> {
         let strange = self.once_in(self.profile.strange);
         let scene = Scene {
-            record: self.bench.record(client),
-            sound_image: self.bench.sound_image(),
             noise: self.noise,
             strange,
+            ..Scene::of(&self.bench, client)
         };
         frame::request(&mut self.rng, &scene)
     }
@@ -241,7 +268,7 @@ impl<'a, W: Write> Maker<'a, W> {
     /// Many frames on one connection, so that the numbers pass 63: empty ones
     /// that are refused with 9, or error responses.
     fn long_connection(&mut self) -> io::Result<()> {
-        let client = self.clients[self.rng.within(0, self.active - 1)];
+        let client = self.any_client();
         for _ in 0..2 {
             let record = self.bench.record(&client);
             let mut head = Head::awaited(record);
@@ -251,12 +278,13 @@ impl<'a, W: Write> Maker<'a, W> {
                     head.receive_mark = 3;
                     Vec::new()
                 }
-                State::Opening => self.read_of_long(),
+                State::Opening => self.read_of_longest(),
                 _ => break,
             };
             self.ask(client, head.frame(&body))?;
         }
-        for _ in 0..self.rng.within(1, 80) {
+        let (short, long) = (self.rng.within(1, 40), self.rng.within(60, 90));
+        for _ in 0..self.rng.pick(&[short, long]) {
             let mut head = Head::awaited(self.bench.record(&client));
             if self.rng.one_in(8) {
                 head.receive_mark = 3;
@@ -272,7 +300,7 @@ impl<'a, W: Write> Maker<'a, W> {
     }
 
     /// A read of the image's longest value.
-    fn read_of_long(&mut self) -> Vec<u8> {
+    fn read_of_longest(&mut self) -> Vec<u8> {
         let entries = self.bench.sound_image().map(entries).unwrap_or_default();
         let longest = entries.iter().max_by_key(|entry| entry.length);
         let (index, sub_index) = longest.map_or((0x2000, 0), |entry| entry.key());

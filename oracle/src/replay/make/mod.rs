@@ -1,12 +1,14 @@
 //! Makes scripts that follow the server: the Rust plays each item as it is
 //! made, so that the next one can be what a client would send, or not quite.
 
+mod bring;
 mod command;
 mod frame;
 mod image;
 mod maker;
 mod profile;
 mod sample;
+mod scenario;
 mod table;
 mod tour;
 
@@ -14,6 +16,7 @@ use std::io::{self, Write};
 
 use maker::Maker;
 
+pub use image::{RETRIES, TIMEOUT};
 pub use profile::Profile;
 pub use sample::sample;
 

@@ -1,5 +1,7 @@
 //! What the scripts of each profile hold.
 
+use super::scenario::Scenario;
+
 /// What a script is about: each thing comes once in so many items (0: never).
 #[derive(Clone, Copy)]
 pub struct Profile {
@@ -23,7 +25,51 @@ pub struct Profile {
     pub strange: usize,
     /// Of the requests: any bytes.
     pub random: usize,
+    /// A scenario instead of a step.
+    pub scenario: usize,
+    /// Each as often as its weight says.
+    pub scenarios: &'static [(usize, Scenario)],
 }
+
+const ALONE: &[(usize, Scenario)] = &[
+    (16, Scenario::AnyFrame),
+    (4, Scenario::WholeUpload),
+    (3, Scenario::Silence),
+    (3, Scenario::ReadBack),
+    (7, Scenario::Abort),
+    (3, Scenario::OtherId),
+];
+
+const TOGETHER: &[(usize, Scenario)] = &[
+    (4, Scenario::AnyFrame),
+    (14, Scenario::WholeUpload),
+    (3, Scenario::Silence),
+    (1, Scenario::Crowd),
+    (3, Scenario::ReadBack),
+    (4, Scenario::Abort),
+];
+
+const LENT: &[(usize, Scenario)] = &[
+    (12, Scenario::AnyFrame),
+    (2, Scenario::WholeUpload),
+    (1, Scenario::Silence),
+    (1, Scenario::ReadBack),
+    (2, Scenario::Abort),
+    (9, Scenario::Part),
+    (4, Scenario::WholeDownload),
+];
+
+const STRANGE: &[(usize, Scenario)] = &[
+    (8, Scenario::AnyFrame),
+    (2, Scenario::WholeUpload),
+    (1, Scenario::Silence),
+    (1, Scenario::Crowd),
+    (2, Scenario::ReadBack),
+    (3, Scenario::Abort),
+    (3, Scenario::Part),
+    (2, Scenario::WholeDownload),
+    (22, Scenario::OtherId),
+];
 
 pub const ONE: Profile = Profile {
     salt: 1,
@@ -38,12 +84,15 @@ pub const ONE: Profile = Profile {
     lengths: 0,
     strange: 40,
     random: 0,
+    scenario: 5,
+    scenarios: ALONE,
 };
 
 const SERIES: Profile = Profile {
     salt: 2,
     clients: &[2, 3, 6, 8, 9, 10, 10],
     spoilt_image: 40,
+    scenarios: TOGETHER,
     ..ONE
 };
 
@@ -52,11 +101,13 @@ const TABLES: Profile = Profile {
     clients: &[1, 3, 8, 10],
     noise: &[2, 3, 5, 9],
     spoilt_image: 30,
-    table: 4,
+    table: 6,
     spoilt_table: 7,
     area: 30,
     lengths: 60,
     strange: 20,
+    scenario: 3,
+    scenarios: LENT,
     ..ONE
 };
 
@@ -67,6 +118,7 @@ const IMAGES: Profile = Profile {
     image: 6,
     spoilt_image: 3,
     border_image: 60,
+    scenario: 12,
     ..ONE
 };
 
@@ -83,6 +135,8 @@ const WILD: Profile = Profile {
     lengths: 50,
     strange: 4,
     random: 6,
+    scenario: 4,
+    scenarios: STRANGE,
 };
 
 impl Profile {

@@ -4,17 +4,17 @@
 use std::io::{self, Write};
 
 use super::command::{self, ABORTED, Command};
-use super::frame::Head;
 use super::image::{RETRIES, TIMEOUT};
 use super::maker::Maker;
 use super::profile::{ONE, Profile};
 use crate::od::image::{Content, READ_ONLY, VARIABLE, build};
+use crate::replay::head::Head;
 use crate::replay::item::Item;
 use crate::replay::record::State;
 
 /// The images are those lent here: a script of few bytes.
 const RANDOM: Profile = Profile { image: 0, ..ONE };
-const RANDOM_CALLS: u64 = 60;
+const RANDOM_CALLS: u64 = 40;
 
 pub const TID: u8 = 7;
 
@@ -29,15 +29,22 @@ pub fn sample(out: &mut impl Write) -> io::Result<()> {
     maker.writes()?;
     maker.other_commands()?;
     maker.closed()?;
+    maker.left_closed()?;
     maker.opening()?;
     maker.established()?;
     maker.lengths_and_clocks()?;
+    maker.uploads_of_closed()?;
     maker.uploads()?;
     maker.lend_image(&[], &[1_452, 8_192])?;
     maker.reads()?;
     maker.timeouts(1)?;
     maker.lend_image(&odd_settings(), &[1_453])?;
+    maker.object_changes()?;
     maker.timeouts(0)?;
+    maker.lend_image(&settings(5, 0), &[5_809])?;
+    maker.reads()?;
+    maker.timeouts(0)?;
+    maker.settings_written()?;
     maker.random_calls()?;
     maker.lend_image(&settings(1_000, 3), &[4_357])?;
     maker.random_calls()

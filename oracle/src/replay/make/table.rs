@@ -1,7 +1,9 @@
 //! Clients and lent tables for scripts.
 
+use super::command::Command;
 use super::image::INDEXES;
 use crate::frame::basic::MacAddress;
+use crate::od::image::Entry;
 use crate::replay::record::{Record, State, Transfer};
 use crate::replay::state::PIECE;
 use crate::replay::table::{RECORDS, Table};
@@ -81,20 +83,30 @@ pub fn upload(rng: &mut Rng, now: u64) -> Transfer {
     }
 }
 
-/// `keys` are the image's, so that some downloads can be written.
-pub fn download(rng: &mut Rng, now: u64, keys: &[(u16, u8, u32)]) -> Transfer {
+/// Which entry a download is for, and its total: mostly one that the image
+/// has and a total that fits, so that it can be written.
+fn target(rng: &mut Rng, entries: &[Entry]) -> ((u16, u8), u32) {
     let any = rng.within(1, 8_192) as u32;
-    let mut total = rng.pick(&[
+    let total = rng.pick(&[
         1, 2, 4, 10, 100, 1_452, 1_479, 1_480, 1_481, 8_191, 8_192, any,
     ]);
-    let (mut index, mut sub_index) = named(rng);
-    if !keys.is_empty() && !rng.one_in(4) {
-        let capacity;
-        (index, sub_index, capacity) = rng.pick(keys);
-        if !rng.one_in(4) {
-            total = capacity;
-        }
+    if entries.is_empty() || rng.one_in(5) {
+        return (named(rng), total);
     }
+    let entry = rng.pick(entries);
+    let capacity = entry.capacity as u32;
+    let near = rng.pick(&[capacity - 1, capacity + 1, capacity / 2]);
+    let near = near.clamp(1, 8_192);
+    let total = rng.weighted(&[(6, capacity), (5, near), (1, total)]);
+    match rng.one_in(8) {
+        true => ((entry.index, rng.u8()), total),
+        false => (entry.key(), total),
+    }
+}
+
+/// `entries` are the image's.
+pub fn download(rng: &mut Rng, now: u64, entries: &[Entry]) -> Transfer {
+    let ((index, sub_index), total) = target(rng, entries);
     let some = rng.within(0, total as usize) as u32;
     let near = total.saturating_sub(rng.within(0, 20) as u32);
     Transfer {
@@ -118,8 +130,22 @@ pub fn download(rng: &mut Rng, now: u64, keys: &[(u16, u8, u32)]) -> Transfer {
     }
 }
 
+/// The download that this Initiate begins.
+pub fn download_of(initiate: &Command, entry: &Entry, now: u64) -> Transfer {
+    Transfer {
+        transaction: initiate.transaction,
+        total: initiate.total,
+        offset: initiate.payload.len() as u32 - 4,
+        index: entry.index,
+        sub_index: entry.sub_index,
+        deadline: Some(now.saturating_add(1_000_000)),
+        retries: 0,
+        stored: false,
+    }
+}
+
 /// A sound table of some of these clients.
-pub fn sound(rng: &mut Rng, now: u64, clients: &[SdoClientInfo], keys: &[(u16, u8, u32)]) -> Table {
+pub fn sound(rng: &mut Rng, now: u64, clients: &[SdoClientInfo], entries: &[Entry]) -> Table {
     let mut chosen = clients.to_vec();
     rng.shuffle(&mut chosen);
     let most = chosen.len().min(RECORDS);
@@ -142,13 +168,14 @@ pub fn sound(rng: &mut Rng, now: u64, clients: &[SdoClientInfo], keys: &[(u16, u
             1 => State::Opening,
             2 => State::Established,
             3 | 4 => State::Upload(upload(rng, now)),
-            _ => State::Download(download(rng, now, keys)),
+            _ => State::Download(download(rng, now, entries)),
         };
     }
     table
 }
 
-fn number(rng: &mut Rng) -> u8 {
+/// A sequence number.
+pub fn number(rng: &mut Rng) -> u8 {
     let any = rng.within(0, 63) as u8;
     rng.pick(&[0, 1, 62, 63, any, any])
 }

@@ -3,11 +3,12 @@
 use std::io::{self, Write};
 
 use super::command::{self, ABORTED, Command, RESPONSE};
-use super::frame::Head;
+use super::image::{RETRIES, TIMEOUT, touched};
 use super::maker::Maker;
 use super::sample::{TID, some_read};
 use crate::od::image::entries;
 use crate::replay::bench::MAX_CLOCK;
+use crate::replay::head::Head;
 use crate::replay::item::Item;
 use crate::replay::record::State;
 
@@ -142,6 +143,15 @@ impl<W: Write> Maker<'_, W> {
         self.marks(prepare, &[&[], &some_read()])
     }
 
+    /// A record that a refusal left Closed.
+    pub fn left_closed(&mut self) -> io::Result<()> {
+        let prepare = |maker: &mut Self| {
+            maker.hello()?;
+            maker.say(|head| head.receive = 1, &[])
+        };
+        self.marks(prepare, &[&[], &some_read()])
+    }
+
     pub fn opening(&mut self) -> io::Result<()> {
         self.marks(Self::hello, &[&[], &some_read()])?;
         for (receive, send) in [(1, 63), (63, 63), (0, 40)] {
@@ -202,6 +212,19 @@ impl<W: Write> Maker<'_, W> {
         Ok(())
     }
 
+    /// Uploads that begin without a handshake.
+    pub fn uploads_of_closed(&mut self) -> io::Result<()> {
+        for send_mark in [0, 1, 2] {
+            if !matches!(self.state(), State::Closed) {
+                self.say(|head| head.send_mark = 0, &[0xFF])?;
+            }
+            let read = command::read(TID, 0x2002, 0).bytes();
+            self.say(|head| head.send_mark = send_mark, &read)?;
+            self.say(|_| {}, &[])?;
+        }
+        Ok(())
+    }
+
     fn reach_upload(&mut self) -> io::Result<()> {
         self.ask_for(&command::read(TID, 0x2002, 2))
     }
@@ -246,6 +269,28 @@ impl<W: Write> Maker<'_, W> {
         }
         self.say(|_| {}, &[])?;
         self.timeouts(2)
+    }
+
+    /// An upload whose object changes before its last piece.
+    pub fn object_changes(&mut self) -> io::Result<()> {
+        self.ask_for(&command::read(TID, 0x2002, 0))?;
+        let image = self.bench.sound_image().expect("lent so");
+        let image = touched(image, (0x2002, 0)).expect("it is being read");
+        self.put(Item::Image(image))?;
+        self.say(|head| head.receive_mark = 3, &[])?;
+        self.say(|_| {}, &[])
+    }
+
+    /// Timeout and retries as a client writes them, and an upload with them.
+    pub fn settings_written(&mut self) -> io::Result<()> {
+        for (index, value) in [(TIMEOUT, 250u32), (RETRIES, 1)] {
+            let mut payload = command::name(index, 0, 0);
+            payload.extend(value.to_le_bytes());
+            let segmentation = command::EXPEDITED;
+            self.ask_for(&Command::new(TID, segmentation, command::WRITE, payload))?;
+            self.ask_for(&command::read(TID, index, 0))?;
+        }
+        self.timeouts(0)
     }
 
     /// An upload whose client is silent, until it is aborted.
