@@ -1,0 +1,26 @@
+-- Safe and ends. Assumes nothing.
+use Rattle.replay.specs.Within.{Within}
+use borrow.Author.Needs.{needs}
+use Rattle.replay.proofs.played.Statement.{statement}
+use Rattle.replay.proofs.played.Tie as tie
+
+abbrev Inv-loop : tie.InvT-loop
+Inv-loop input₀ area₀ image₀ out₀ p₀ turns₀ input area image out p turns = Within p
+
+abbrev μ-loop : tie.MeasureT-loop
+μ-loop input₀ area₀ image₀ out₀ p₀ turns₀ input area image out p turns = turns
+
+pub played-spec : {M : Type 1} → statement M
+played-spec =
+    tie.close
+    (tie.spec
+    Inv-loop
+    μ-loop
+    (λ c κs. search needs)
+    (λ c. search needs)
+    (λ c κs. search needs)
+    (λ c. search needs)
+    (λ c. search needs)
+    (λ c. search needs)
+    (λ c. search needs)
+    (λ c. search needs))
