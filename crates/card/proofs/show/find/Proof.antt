@@ -2,24 +2,24 @@
 use borrow.Author.Needs.{needs}
 use Prim.Native.Nat.{_≤_, _-_}
 use lib.ListN.{length}
-use Rattle.card.proofs.say_bytes.Statement.{statement}
-use Rattle.card.proofs.say_bytes.Tie as tie
+use Rattle.card.proofs.show.find.Statement.{statement}
+use Rattle.card.proofs.show.find.Tie as tie
 
 abbrev Inv-loop : tie.InvT-loop
-Inv-loop bytes i₀ i = i ≤ length bytes
+Inv-loop text mark i₀ i = i ≤ length text
 
 abbrev μ-loop : tie.MeasureT-loop
-μ-loop bytes i₀ i = length bytes - i
+μ-loop text mark i₀ i = length text - i
 
-pub say-bytes-spec : {M : Type 1} → statement M
-say-bytes-spec =
+pub find-spec : {M : Type 1} → statement M
+find-spec =
     tie.close
     (tie.spec
     Inv-loop
     μ-loop
     (λ c. search needs)
     (λ c κs. search needs)
-    (λ c κs. search needs)
+    (λ c. search needs)
     (λ c. search needs)
     (λ c. search needs)
     (λ c. search needs)
