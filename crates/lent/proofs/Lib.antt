@@ -1,0 +1,4 @@
+pub mod Types
+pub mod OtherLength
+pub mod Query
+pub mod Search
