@@ -10,14 +10,14 @@ use borrow.Author.Tests.{ltb-true, ltb-false, lt-ltb, eqb-true, not-false}
 use Rattle.picks.proofs.Keep.{by-test, left}
 use Rattle.protocol.specs.declared.SdoClientInfo.{SdoClientInfo}
 use Rattle.protocol.specs.declared.Connection.{Connection}
-use Rattle.protocol.specs.Constants.{SHARE, RECORDS, AREA, ANSWER-MIN}
+use Rattle.protocol.specs.Constants.{RECORDS, AREA, ANSWER-MIN}
 use Rattle.protocol.specs.DictionaryImage.{soundImage}
 use Rattle.protocol.specs.ConnectionRecord.{Reply}
-use Rattle.protocol.specs.ConnectionTable.{soundTable, soundRecord, fresh, holds, isKnown, recordOf, placeOf, sameClient, shareOf, isPast, transferDeadline, chosen, ticks, tickIn, tickRecord}
+use Rattle.protocol.specs.ConnectionTable.{soundTable, fresh, holds, isKnown, recordOf, placeOf, sameClient, shareOf, isPast, transferDeadline, chosen, ticks, tickIn, tickRecord}
 use Rattle.protocol.specs.Calls.{accept, verdict}
 use Rattle.protocol.specs.Tick.{tickTests}
 use Rattle.protocol.proofs.Calls.{accepted-head}
-use Rattle.protocol.proofs.ConnectionTable.{holds-by, area-below, record-sound, place-unique, set-update, set-sound, update-own, update-other, chosen-due}
+use Rattle.protocol.proofs.ConnectionTable.{holds-by, area-below, record-sound, unused-fresh, place-unique, set-update, set-sound, update-own, update-other, chosen-due}
 use Rattle.protocol.proofs.Requests.{neither}
 use Rattle.protocol.proofs.ServeSound.{Steps}
 use Rattle.protocol.proofs.TickSound.{Ticks, tick-kept}
@@ -46,6 +46,40 @@ module _ (clock : ℕ) (image answer : List ℕ) (table : List Connection) (area
         table-sound = not-false _ (h3 .0);
       }
 
+-- the record at any place
+module _ (clock : ℕ) (image answer : List ℕ) (table : List Connection) (area : List ℕ) (ok : TickAccepted clock image answer table area) (i : ℕ) where
+  abbrev pub lying : Connection
+  lying = getD table i (fresh 0)
+
+  abbrev pub lyingShare : List ℕ
+  lyingShare = shareOf area (lying .area)
+
+  -- a record that nobody uses is not answered
+  fresh-idle : (n : ℕ) → lying ≡ fresh n → (r' : Connection) (y : Reply) → tickRecord lying lyingShare image clock ≡ ticks r' y → ⊥
+  unfolding tickRecord tickIn
+  fresh-idle n d r' y e = let z : _≡_ {A = ℕ} 0 1 = cc (rw d at e) in omega arith
+
+  -- the record of a tick that answers is in the table, used and sound
+  pub answered-there : (r' : Connection) (y : Reply) → tickRecord lying lyingShare image clock ≡ ticks r' y → i < length table
+  answered-there r' y e =
+      by-test (ltb i (length table)) (λ f. ltb-true _ _ f) (λ f. absurd (fresh-idle 0 (List·getD-eq-default table (fresh 0) (ltb-false _ _ f)) r' y e))
+
+  module _ (inside : i < length table) where
+    pub answered-used : (r' : Connection) (y : Reply) → tickRecord lying lyingShare image clock ≡ ticks r' y → lying .used ≡ true
+    answered-used r' y e =
+        by-test (lying .used) (λ u. u) (λ u. absurd (fresh-idle (lying .area) (unused-fresh table (ok .table-sound) i inside u) r' y e))
+
+    pub lying-kept : Ticks lying (tickRecord lying lyingShare image clock)
+    unfolding AREA
+    lying-kept =
+        tick-kept lying lyingShare image clock (record-sound table (ok .table-sound) i inside)
+        (simp (length-take, length-drop) (omega (arith, area-below table (ok .table-sound) i inside, ok .whole)))
+
+    -- the table with the record that the tick left
+    pub set-lying : lying .used ≡ true → (r' : Connection) → Steps lying r' → soundTable (set table i r') ≡ true
+    set-lying u r' s = set-sound table i r' (ok .table-sound) inside u (s .used ∙ u) (s .client) (s .area) (s .sound)
+
+-- the first due record
 module _ (clock : ℕ) (image answer : List ℕ) (table : List Connection) (area : List ℕ) (ok : TickAccepted clock image answer table area) where
   abbrev pub place : ℕ
   place = chosen table clock
@@ -56,40 +90,27 @@ module _ (clock : ℕ) (image answer : List ℕ) (table : List Connection) (area
   abbrev pub dueShare : List ℕ
   dueShare = shareOf area (due .area)
 
-  -- the record of a tick that answers is in the table, used and sound
   pub due-there : (r' : Connection) (y : Reply) → tickRecord due dueShare image clock ≡ ticks r' y → place < length table
-  unfolding tickRecord tickIn
-  due-there r' y e =
-      by-test (ltb place (length table)) (λ f. ltb-true _ _ f)
-      (λ f. let d : due ≡ fresh 0 = List·getD-eq-default table (fresh 0) (ltb-false _ _ f) in
-      absurd (let z : _≡_ {A = ℕ} 0 1 = cc (rw d at e) in omega arith))
+  due-there = answered-there clock image answer table area ok place
 
   module _ (inside : place < length table) where
-    pub due-used : due .used ≡ true
+    due-used : due .used ≡ true
     due-used = left (due .used) (isPast clock (transferDeadline (due .state))) (chosen-due table clock inside)
 
-    pub due-sound : soundRecord due ≡ true
-    due-sound = record-sound table (ok .table-sound) place inside
-
-    pub due-share-long : length dueShare ≡ SHARE
-    unfolding AREA
-    due-share-long = simp (length-take, length-drop) (omega (arith, area-below table (ok .table-sound) place inside, ok .whole))
-
-    pub due-holds : holds (due .client) due ≡ true
+    due-holds : holds (due .client) due ≡ true
     due-holds = holds-by (due .client) due due-used refl
 
-    pub due-place : placeOf (due .client) table ≡ place
+    due-place : placeOf (due .client) table ≡ place
     due-place = place-unique (due .client) table place (ok .table-sound) inside due-holds
 
     pub due-known : (isKnown (due .client) table ≡ true) × (recordOf (due .client) table ≡ due)
     due-known = (rw due-place (lt-ltb place (length table) inside), ap (λ i. getD table i (fresh 0)) due-place)
 
     pub due-kept : Ticks due (tickRecord due dueShare image clock)
-    due-kept = tick-kept due dueShare image clock due-sound due-share-long
+    due-kept = lying-kept clock image answer table area ok place inside
 
-    -- the table with the record that the tick left
     pub set-known : (r' : Connection) → Steps due r' → soundTable (set table place r') ≡ true
-    set-known r' s = set-sound table place r' (ok .table-sound) inside due-used (s .used ∙ due-used) (s .client) (s .area) (s .sound)
+    set-known = set-lying clock image answer table area ok place inside due-used
 
     pub set-own : (r' : Connection) → Steps due r' → (isKnown (due .client) (set table place r') ≡ true) × (recordOf (due .client) (set table place r') ≡ r')
     set-own r' s =
