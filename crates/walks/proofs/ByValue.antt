@@ -1,6 +1,6 @@
 -- A call, within a walk, of a covered function of plain parameters whose contract says its result by a function f: `fn g(a: R, b: X) -> S  ensures { λ r. ⌜ r ≡ f a b ⌝ }`, with no `requires`.
---     Value ps f       its contract, at parameters ps.        Value0, Value1, Value2, Value3, Value4      at none, one, two, three and four
---     calls0, calls1, calls2, calls3, calls4       the call, as a step of a walk: the context stays as it is, and the result v is known to be a machine value of f a b
+--     Value ps f       its contract, at parameters ps.        Value0, Value2, Value4      at none, two and four
+--     calls0, calls2, calls4       the call, as a step of a walk: the context stays as it is, and the result v is known to be a machine value of f a b
 -- It says nothing of the crate, and can be copied as it stands. Assumes nothing.
 use mathlib.Core.Path.{_≡_, subst}
 use mathlib.Core.List.{List, [], _∷_}
@@ -69,18 +69,12 @@ module _ {M : Type 1} {𝓤 : URA M} {H : Heap 𝓤} {A : Atoms 𝓤} {K : Type 
           split t $ move t (1 ∷ []) $ use1 W (raw (fact 𝓤 (r ≡ f a))) (saidV ps ks S f 𝓤 H A a r) $ heard t (r ≡ f a) (λ e. split t $ drop t $
           peeks t S (Is S) (shows 𝓤 H A S) r (v ∷ []) (λ g. drop t $ go v (subst (λ (s : S .Denot). Is S s (v ∷ [])) e g))))
 
--- at no parameters, at one, at two, at three, and at four
+-- at no parameters, at two, and at four
 abbrev pub Value0 : (S : RattleType) → S .Denot → {M : Type 1} (𝓤 : URA M) (H : Heap 𝓤) (A : Atoms 𝓤) → Contract 𝓤
 Value0 S s = Value [] tt S (λ a. s)
 
-abbrev pub Value1 : (R S : RattleType) → (R .Denot → S .Denot) → {M : Type 1} (𝓤 : URA M) (H : Heap 𝓤) (A : Atoms 𝓤) → Contract 𝓤
-Value1 R S f = Value (plain (λ _. R) ∷ []) (yes, tt) S (λ a. f (a .0))
-
 abbrev pub Value2 : (R X S : RattleType) → (R .Denot → X .Denot → S .Denot) → {M : Type 1} (𝓤 : URA M) (H : Heap 𝓤) (A : Atoms 𝓤) → Contract 𝓤
 Value2 R X S f = Value (plain (λ _. R) ∷ plain (λ _. X) ∷ []) (yes, (yes, tt)) S (λ a. f (a .0) (a .1 .0))
-
-abbrev pub Value3 : (R X Z S : RattleType) → (R .Denot → X .Denot → Z .Denot → S .Denot) → {M : Type 1} (𝓤 : URA M) (H : Heap 𝓤) (A : Atoms 𝓤) → Contract 𝓤
-Value3 R X Z S f = Value (plain (λ _. R) ∷ plain (λ _. X) ∷ plain (λ _. Z) ∷ []) (yes, (yes, (yes, tt))) S (λ a. f (a .0) (a .1 .0) (a .1 .1 .0))
 
 abbrev pub Value4 : (R X Z U S : RattleType) → (R .Denot → X .Denot → Z .Denot → U .Denot → S .Denot) → {M : Type 1} (𝓤 : URA M) (H : Heap 𝓤) (A : Atoms 𝓤) → Contract 𝓤
 Value4 R X Z U S f = Value (plain (λ _. R) ∷ plain (λ _. X) ∷ plain (λ _. Z) ∷ plain (λ _. U) ∷ []) (yes, (yes, (yes, (yes, tt)))) S (λ a. f (a .0) (a .1 .0) (a .1 .1 .0) (a .1 .1 .1 .0))
@@ -90,25 +84,12 @@ module _ {M : Type 1} {𝓤 : URA M} {H : Heap 𝓤} {A : Atoms 𝓤} {K : Type 
       → ((v : Val) → Is S s (v ∷ []) → Seq K W Γ (lands C Λ E d v rest q)) → Seq K W Γ (runs C Λ E (seq (call k xs d) rest) q)
   calls0 t fm S s known os go = calls-value t fm [] tt S (λ a. s) known tt tt (id⊢ 𝓤 (emp 𝓤)) os go
 
-  pub calls1 : K → FmC 𝓤 H (W .laws) C → {rest : Body} {R : RattleType} (P : Plain R) (S : RattleType) (f : R .Denot → S .Denot) → Triple 𝓤 (C k) (Value1 R S f 𝓤 H A)
-      → (a : R .Denot) (va : Val) → Is R a (va ∷ []) → Opds K W Γ E xs (va ∷ [])
-      → ((v : Val) → Is S (f a) (v ∷ []) → Seq K W Γ (lands C Λ E d v rest q)) → Seq K W Γ (runs C Λ E (seq (call k xs d) rest) q)
-  calls1 t fm {rest} {R} P S f known a va ga os go =
-      calls-value t fm (plain (λ _. R) ∷ []) (yes, tt) S (λ z. f (z .0)) known (a, tt) (va ∷ [], tt) (owns-make 𝓤 H A (R ∷ []) (Ises (R ∷ [])) (P .makes M 𝓤 H A W, tt) (a, tt) (va ∷ [], tt) (ga, tt)) os go
-
   pub calls2 : K → FmC 𝓤 H (W .laws) C → {rest : Body} {R X : RattleType} (P : Plain R) (Q : Plain X) (S : RattleType) (f : R .Denot → X .Denot → S .Denot) → Triple 𝓤 (C k) (Value2 R X S f 𝓤 H A)
       → (a : R .Denot) (va : Val) → Is R a (va ∷ []) → (b : X .Denot) (vb : Val) → Is X b (vb ∷ []) → Opds K W Γ E xs (va ∷ vb ∷ [])
       → ((v : Val) → Is S (f a b) (v ∷ []) → Seq K W Γ (lands C Λ E d v rest q)) → Seq K W Γ (runs C Λ E (seq (call k xs d) rest) q)
   calls2 t fm {rest} {R} {X} P Q S f known a va ga b vb gb os go =
       calls-value t fm (plain (λ _. R) ∷ plain (λ _. X) ∷ []) (yes, (yes, tt)) S (λ z. f (z .0) (z .1 .0)) known (a, (b, tt)) (va ∷ [], (vb ∷ [], tt))
       (owns-make 𝓤 H A (R ∷ X ∷ []) (Ises (R ∷ X ∷ [])) (P .makes M 𝓤 H A W, (Q .makes M 𝓤 H A W, tt)) (a, (b, tt)) (va ∷ [], (vb ∷ [], tt)) (ga, (gb, tt))) os go
-
-  pub calls3 : K → FmC 𝓤 H (W .laws) C → {rest : Body} {R X Z : RattleType} (P : Plain R) (Q : Plain X) (O : Plain Z) (S : RattleType) (f : R .Denot → X .Denot → Z .Denot → S .Denot) → Triple 𝓤 (C k) (Value3 R X Z S f 𝓤 H A)
-      → (a : R .Denot) (va : Val) → Is R a (va ∷ []) → (b : X .Denot) (vb : Val) → Is X b (vb ∷ []) → (c : Z .Denot) (vc : Val) → Is Z c (vc ∷ []) → Opds K W Γ E xs (va ∷ vb ∷ vc ∷ [])
-      → ((v : Val) → Is S (f a b c) (v ∷ []) → Seq K W Γ (lands C Λ E d v rest q)) → Seq K W Γ (runs C Λ E (seq (call k xs d) rest) q)
-  calls3 t fm {rest} {R} {X} {Z} P Q O S f known a va ga b vb gb c vc gc os go =
-      calls-value t fm (plain (λ _. R) ∷ plain (λ _. X) ∷ plain (λ _. Z) ∷ []) (yes, (yes, (yes, tt))) S (λ z. f (z .0) (z .1 .0) (z .1 .1 .0)) known (a, (b, (c, tt))) (va ∷ [], (vb ∷ [], (vc ∷ [], tt)))
-      (owns-make 𝓤 H A (R ∷ X ∷ Z ∷ []) (Ises (R ∷ X ∷ Z ∷ [])) (P .makes M 𝓤 H A W, (Q .makes M 𝓤 H A W, (O .makes M 𝓤 H A W, tt))) (a, (b, (c, tt))) (va ∷ [], (vb ∷ [], (vc ∷ [], tt))) (ga, (gb, (gc, tt)))) os go
 
   pub calls4 : K → FmC 𝓤 H (W .laws) C → {rest : Body} {R X Z U : RattleType} (P : Plain R) (Q : Plain X) (O : Plain Z) (N : Plain U) (S : RattleType) (f : R .Denot → X .Denot → Z .Denot → U .Denot → S .Denot) → Triple 𝓤 (C k) (Value4 R X Z U S f 𝓤 H A)
       → (a : R .Denot) (va : Val) → Is R a (va ∷ []) → (b : X .Denot) (vb : Val) → Is X b (vb ∷ []) → (c : Z .Denot) (vc : Val) → Is Z c (vc ∷ []) → (e : U .Denot) (ve : Val) → Is U e (ve ∷ []) → Opds K W Γ E xs (va ∷ vb ∷ vc ∷ ve ∷ [])

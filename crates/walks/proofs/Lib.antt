@@ -2,7 +2,6 @@ pub mod Plain
 pub mod Two
 pub mod ByValue
 pub mod Lists
-pub mod RowAt
 pub mod RowLoad
 pub mod RowSave
 pub mod RowLend
@@ -14,5 +13,9 @@ pub mod RowStep
 pub mod RowHandle
 pub mod RowTick
 pub mod RowQuery
-pub mod ElemLend
-pub mod RowStepAt
+pub mod LocalLend
+pub mod OwnStep
+pub mod RowOn
+pub mod OwnTick
+pub mod OwnHandle
+pub mod OwnQuery

@@ -48,7 +48,7 @@ use denote.Triple.Clauses.{Clauses, Ended, closing}
 use denote.Triple.Walked.{says, Stays, stay-none, stay-none-slice, walkOf, Walks, ends-at, walked, goes-none, goes-none-slice, walk-meets}
 use Rattle.walks.proofs.Plain.{Plain, ty, val, vals, tells, told, fits, fits-at, copies, bares, wraps, rest, silent, uint}
 use Rattle.walks.proofs.ByValue.{Value4, calls4}
-use Rattle.walks.proofs.RowAt.{below}
+use Rattle.walks.proofs.Lists.{below}
 
 module _ (R X B : RattleType) (P : Plain R) (PX : Plain X) (PB : Plain B) (d : R .Denot) (f : B .Denot → R .Denot → ℕ → X .Denot → B .Denot) (rv : Rv) (start : B .Denot) (fold : B .Denot → ℕ → List (R .Denot) → X .Denot → B .Denot) (said : List (R .Denot) → X .Denot → B .Denot) where
   abbrev pub signature : Signature

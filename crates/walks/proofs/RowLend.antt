@@ -1,6 +1,6 @@
 -- A call, within a walk that has a slice's elements in hand, of a walked function over that slice: the elements are lent for a lifetime of the call, and come back.
 --     ShrRow, calls-shr    `fn g(t: &[R]) -> S  requires { ⌜ req (now t) ⌝ }  ensures { λ r. ⌜ r ≡ h (now (t .entry)) ⌝ }`: the elements, had at any share p, are as they were, and the result v is a machine value of h ys
---     AnyRow, calls-any    the same with no `requires`
+--     AnyRow, calls-any    `fn g(t: &[R], ps..) -> S  ensures { λ r. ⌜ Φ ⌝ }`, at any list of parameters ps that own only facts and any Φ of them and of the result: the elements are as they were, and Φ is known of the result
 --     MutRow, calls-mut    `fn g(t: &mut [R], c: B)  requires { ⌜ req (now t) ⌝ }  ensures { λ _. ⌜ now (t .exit) ≡ h (now (t .entry)) c ⌝ }`: the elements are then h ys c
 -- The operands are read with two entries, i and j, in the place of the elements: so a position that was p is p + 1.
 -- It says nothing of the crate, and can be copied as it stands. Assumes nothing.
@@ -17,14 +17,15 @@ use base.Fml.{GName, Share, ftrue, flft, flent}
 use prog.Wp.{Heap, Env, Calls, Loops}
 use ghost.Atoms.{Atoms, sem}
 use sound.WpLaws.{FmC}
-use types.Kit.{Given, Item, ‵, raw, _⊛_, some, later, Post, runs, lands, Seq, use1, use2, use3, _$_, _∵_, !, qed, move, drop, split, join, pick, rewrite, fsplit, fjoin, feqI, frame, await, done}
+use types.Kit.{Given, Item, ‵, raw, _⊛_, some, later, Post, runs, lands, Seq, use0, use1, use2, use3, _$_, _∵_, !, qed, move, drop, split, join, pick, rewrite, fsplit, fjoin, feqI, frame, await, done}
 use types.Run.{Opds}
 use types.SemTy.{cells, Arr}
 use types.Share.{arr-parts}
 use types.Tokens.{lft-new, lft-end, lent-back}
 use contract.Monad.{fact}
 use denote.Builtin.{unit}
-use denote.RattleType.{RattleType}
+use contract.Lifetimes.{Lfts}
+use denote.RattleType.{RattleType, Denots, Valss, flat, owns}
 use denote.Laws.{Is, shows}
 use denote.Exit.{yes}
 use denote.Memory.{mem, shares}
@@ -32,11 +33,12 @@ use denote.Ref.{RefT, now}
 use denote.Slice.{sliceVal, MutSlice, ShrSlice, Room}
 use denote.Lend.{Held, lends-slice, slice-back, lends-shr-slice}
 use denote.Index.{row, whole-out, whole-in}
-use denote.Signature.{plain, shrSliceOf, mutSliceOf}
+use denote.Signature.{Slot, plain, shrSliceOf, mutSliceOf, typesAt}
 use denote.Steps.{owned, peeks, heard, nothing}
 use denote.Triple.Statement.{Contract, Triple}
 use denote.Triple.Call.{calls-at}
 use denote.Triple.Spec.{tripleOf}
+use denote.Triple.End.{Kepts}
 use denote.Triple.Clauses.{Clauses, Ended, Lasts, closing, ensured, lasts}
 use denote.Triple.Walked.{says}
 use Rattle.walks.proofs.Plain.{Plain}
@@ -82,45 +84,50 @@ module _ {M : Type 1} {𝓤 : URA M} {H : Heap 𝓤} {A : Atoms 𝓤} {K : Type 
       -- [the elements; true; …]
       move t (1 ∷ []) $ drop t $ go v (subst (λ (s : S .Denot). Is S s (v ∷ [])) e g)))))))
 
--- ---- a `&[R]`, of a function that asks nothing
-module _ (R S : RattleType) where
+-- ---- a `&[R]` and parameters ps that own only facts, of a function that asks nothing, at any relation Φ of them and the result
+module _ (ps : List (Slot 1)) (ks : Kepts ps) (R S : RattleType) where
   abbrev pub ended-any : Ended
-  ended-any = record { signature = record { lifetimes = 1; outlives = []; params = shrSliceOf (0 ∷ []) tt (plain (λ _. R)) ∷ []; result = plain (λ _. S) }; kept = (yes, tt) }
+  ended-any = record { signature = record { lifetimes = 1; outlives = []; params = shrSliceOf (0 ∷ []) tt (plain (λ _. R)) ∷ ps; result = plain (λ _. S) }; kept = (yes, ks) }
 
-  module _ (h : List (R .Denot) → S .Denot) {M : Type 1} (𝓤 : URA M) (H : Heap 𝓤) (A : Atoms 𝓤) where
+  module _ (Φ : (κs : Lfts 1) → List (R .Denot) → Denots (typesAt ps κs) → S .Denot → Type 0) {M : Type 1} (𝓤 : URA M) (H : Heap 𝓤) (A : Atoms 𝓤) where
     abbrev pub clauses-any : Clauses 𝓤 ended-any
-    clauses-any κs a = record { ghost = Unit {0}; requires = λ _. emp 𝓤; ensures = λ _ r _. fact 𝓤 (r ≡ h (now (a .0))) }
+    clauses-any κs a = record { ghost = Unit {0}; requires = λ _. emp 𝓤; ensures = λ _ r _. fact 𝓤 (Φ κs (now (a .0)) (a .1) r) }
 
     abbrev pub AnyRow : Contract 𝓤
     AnyRow = tripleOf 𝓤 H A (ended-any .signature) (closing 𝓤 H A ended-any clauses-any)
 
-    abbrev at-any : (ν b o : ℕ) (δ : GName) (ys : List (R .Denot)) → AnyRow .Ghost
-    at-any ν b o δ ys = (((ν ∷ [], tt), (fullShare, tt), tt, (record { ptr = (b, o); name = δ; now = ys }, tt), (sliceVal (b, o) (length ys) ∷ [], tt)), tt)
+    module _ (ν b o : ℕ) (δ : GName) (ys : List (R .Denot)) (a : Denots (typesAt ps (ν ∷ [], tt))) (vss : Valss (typesAt ps (ν ∷ [], tt))) where
+      abbrev ref-any : RefT (List (R .Denot))
+      ref-any = record { ptr = (b, o); name = δ; now = ys }
 
-    said-any : (ν b o : ℕ) (δ : GName) (ys : List (R .Denot)) (r : S .Denot) → ent 𝓤 (ensured 𝓤 H A ended-any clauses-any (ν ∷ [], tt) (record { ptr = (b, o); name = δ; now = ys }, tt) tt r) (fact 𝓤 (r ≡ h ys))
-    said-any ν b o δ ys r = exE 𝓤 _ (λ ws. snd∗ 𝓤 (sem 𝓤 H A (lasts ended-any (ν ∷ [], tt) (record { ptr = (b, o); name = δ; now = ys }, tt) ws)) (fact 𝓤 (r ≡ h ys)))
+      abbrev at-any : AnyRow .Ghost
+      at-any = (((ν ∷ [], tt), (fullShare, tt), tt, (ref-any, a), (sliceVal (b, o) (length ys) ∷ [], vss)), tt)
 
-    module _ (W : Given 𝓤 H A) where
-      asks-any : (ν b o : ℕ) (δ : GName) (ys : List (R .Denot)) → ent 𝓤 (sep 𝓤 (A .lft (ν ∷ []) fullShare) (sem 𝓤 H A (ShrSlice (named 0) (ν ∷ []) R .own (record { ptr = (b, o); name = δ; now = ys }) (sliceVal (b, o) (length ys) ∷ [])))) (AnyRow .pre (at-any ν b o δ ys))
-      asks-any ν b o δ ys =
-          qed W (‵ (flft (ν ∷ []) fullShare) ∷ ‵ (ShrSlice (named 0) (ν ∷ []) R .own (record { ptr = (b, o); name = δ; now = ys }) (sliceVal (b, o) (length ys) ∷ [])) ∷ []) ∵ nothing ! $ move ! (1 ∷ 0 ∷ []) $ join ! $ nothing ! $ move ! (2 ∷ 0 ∷ []) $ fjoin ! $ move ! (1 ∷ 0 ∷ []) $ join ! $ nothing ! $ move ! (1 ∷ 0 ∷ []) $ frame ! $ done !
+      said-any : (r : S .Denot) → ent 𝓤 (ensured 𝓤 H A ended-any clauses-any (ν ∷ [], tt) (ref-any, a) tt r) (fact 𝓤 (Φ (ν ∷ [], tt) ys a r))
+      said-any r = exE 𝓤 _ (λ ws. snd∗ 𝓤 (sem 𝓤 H A (lasts ended-any (ν ∷ [], tt) (ref-any, a) ws)) (fact 𝓤 (Φ (ν ∷ [], tt) ys a r)))
+
+      asks-any : (W : Given 𝓤 H A) → ent 𝓤 (emp 𝓤) (sem 𝓤 H A (owns (typesAt ps (ν ∷ [], tt)) a vss)) → ent 𝓤 (sep 𝓤 (A .lft (ν ∷ []) fullShare) (sem 𝓤 H A (ShrSlice (named 0) (ν ∷ []) R .own ref-any (sliceVal (b, o) (length ys) ∷ [])))) (AnyRow .pre at-any)
+      asks-any W made =
+          qed W (‵ (flft (ν ∷ []) fullShare) ∷ ‵ (ShrSlice (named 0) (ν ∷ []) R .own ref-any (sliceVal (b, o) (length ys) ∷ [])) ∷ []) ∵ nothing ! $ move ! (1 ∷ 0 ∷ []) $ join ! $
+          use0 W (‵ (owns (typesAt ps (ν ∷ [], tt)) a vss)) made $ move ! (2 ∷ 0 ∷ []) $ fjoin ! $ move ! (1 ∷ 0 ∷ []) $ join ! $ nothing ! $ move ! (1 ∷ 0 ∷ []) $ frame ! $ done !
 
 module _ {M : Type 1} {𝓤 : URA M} {H : Heap 𝓤} {A : Atoms 𝓤} {K : Type 0} {W : Given 𝓤 H A} {Γ : List (Item 𝓤)} {E : Env 𝓤 H} {C : Calls 𝓤 H} {k : Name} {xs : List Operand} {Λ : Loops 𝓤 H} {q : Post 𝓤 H} {d : Place} where
-  pub calls-any : K → FmC 𝓤 H (W .laws) C → {rest : Body} (R S : RattleType) (h : List (R .Denot) → S .Denot) → Triple 𝓤 (C k) (AnyRow R S h 𝓤 H A)
-      → (p : Share) (ys : List (R .Denot)) (b o : ℕ) → Room R (length ys) → ((i j : Item 𝓤) → Opds K W (i ∷ j ∷ Γ) E xs (sliceVal (b, o) (length ys) ∷ []))
-      → ((v : Val) → Is S (h ys) (v ∷ []) → Seq K W (‵ (row R p ys b o) ∷ Γ) (lands C Λ E d v rest q)) → Seq K W (‵ (row R p ys b o) ∷ Γ) (runs C Λ E (seq (call k xs d) rest) q)
-  calls-any t fm R S h known p ys b o room os go =
+  pub calls-any : K → FmC 𝓤 H (W .laws) C → {rest : Body} (ps : List (Slot 1)) (ks : Kepts ps) (R S : RattleType) (Φ : (κs : Lfts 1) → List (R .Denot) → Denots (typesAt ps κs) → S .Denot → Type 0) → Triple 𝓤 (C k) (AnyRow ps ks R S Φ 𝓤 H A)
+      → (p : Share) (ys : List (R .Denot)) (b o : ℕ) → Room R (length ys) → (a : (ν : ℕ) → Denots (typesAt ps (ν ∷ [], tt))) (vss : (ν : ℕ) → Valss (typesAt ps (ν ∷ [], tt))) → ((ν : ℕ) → ent 𝓤 (emp 𝓤) (sem 𝓤 H A (owns (typesAt ps (ν ∷ [], tt)) (a ν) (vss ν))))
+      → ((ν : ℕ) (i j : Item 𝓤) → Opds K W (i ∷ j ∷ Γ) E xs (sliceVal (b, o) (length ys) ∷ flat (typesAt ps (ν ∷ [], tt)) (vss ν)))
+      → ((ν : ℕ) (v : Val) (r : S .Denot) → Is S r (v ∷ []) → Φ (ν ∷ [], tt) ys (a ν) r → Seq K W (‵ (row R p ys b o) ∷ Γ) (lands C Λ E d v rest q)) → Seq K W (‵ (row R p ys b o) ∷ Γ) (runs C Λ E (seq (call k xs d) rest) q)
+  calls-any t fm ps ks R S Φ known p ys b o room a vss made os go =
       lft-new t tt (λ ν. move t (1 ∷ []) $ feqI t ℕ (length ys) (length ys) refl $ fjoin t $
       use1 W (later (some (λ (δ : GName). ‵ (ShrSlice (named 0) (ν ∷ []) R .own (record { ptr = (b, o); name = δ; now = ys }) (sliceVal (b, o) (length ys) ∷ [])) ⊛ ‵ (flent (ν ∷ []) (arr-parts (shares R) (length ys) .part p ys b o)))))
       (lends-shr-slice 𝓤 H A W R (named 0) (ν ∷ []) p ys b o room) $ await t tt $ pick t (λ δ. split t $
       -- [the slice; the lender's part; the lifetime's token; …]
-      move t (2 ∷ 0 ∷ []) $ use2 W (raw (AnyRow R S h 𝓤 H A .pre (at-any R S h 𝓤 H A ν b o δ ys))) (asks-any R S h 𝓤 H A W ν b o δ ys) $
-      calls-at t fm (AnyRow R S h 𝓤 H A) known (at-any R S h 𝓤 H A ν b o δ ys) (os _ _) (λ v.
-      use1 W (later (some (λ (r : S .Denot). ((‵ (flft (ν ∷ []) fullShare) ⊛ ‵ ftrue) ⊛ ‵ (S .own r (v ∷ []))) ⊛ raw (ensured 𝓤 H A (ended-any R S) (clauses-any R S h 𝓤 H A) (ν ∷ [], tt) (record { ptr = (b, o); name = δ; now = ys }, tt) tt r)))) (id⊢ 𝓤 _) $ await t tt $ pick t (λ r.
-      split t $ move t (1 ∷ []) $ use1 W (raw (fact 𝓤 (r ≡ h ys))) (said-any R S h 𝓤 H A ν b o δ ys r) $ heard t (r ≡ h ys) (λ e. split t $ move t (1 ∷ []) $
+      move t (2 ∷ 0 ∷ []) $ use2 W (raw (AnyRow ps ks R S Φ 𝓤 H A .pre (at-any ps ks R S Φ 𝓤 H A ν b o δ ys (a ν) (vss ν)))) (asks-any ps ks R S Φ 𝓤 H A ν b o δ ys (a ν) (vss ν) W (made ν)) $
+      calls-at t fm (AnyRow ps ks R S Φ 𝓤 H A) known (at-any ps ks R S Φ 𝓤 H A ν b o δ ys (a ν) (vss ν)) (os ν _ _) (λ v.
+      use1 W (later (some (λ (r : S .Denot). ((‵ (flft (ν ∷ []) fullShare) ⊛ ‵ ftrue) ⊛ ‵ (S .own r (v ∷ []))) ⊛ raw (ensured 𝓤 H A (ended-any ps ks R S) (clauses-any ps ks R S Φ 𝓤 H A) (ν ∷ [], tt) (ref-any ps ks R S Φ 𝓤 H A ν b o δ ys (a ν) (vss ν), a ν) tt r)))) (id⊢ 𝓤 _) $ await t tt $ pick t (λ r.
+      split t $ move t (1 ∷ []) $ use1 W (raw (fact 𝓤 (Φ (ν ∷ [], tt) ys (a ν) r))) (said-any ps ks R S Φ 𝓤 H A ν b o δ ys (a ν) (vss ν) r) $ heard t (Φ (ν ∷ [], tt) ys (a ν) r) (λ e. split t $ move t (1 ∷ []) $
       peeks t S (Is S) (shows 𝓤 H A S) r (v ∷ []) (λ g. drop t $ split t $ lft-end t tt $ move t (0 ∷ 2 ∷ []) $ lent-back t tt $ fsplit t $ drop t $
       -- [the elements; true; …]
-      move t (1 ∷ []) $ drop t $ go v (subst (λ (s : S .Denot). Is S s (v ∷ [])) e g)))))))
+      move t (1 ∷ []) $ drop t $ go ν v r g e))))))
 
 -- ---- a `&mut [R]`, and a plain value
 module _ (R B : RattleType) where

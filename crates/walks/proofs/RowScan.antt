@@ -47,7 +47,7 @@ use denote.Triple.Clauses.{Clauses, Ended, closing}
 use denote.Triple.Walked.{says, Stays, stay-none-slice, walkOf, Walks, ends-at, walked, goes-none-slice, walk-meets}
 use Rattle.walks.proofs.Plain.{Plain, ty, val, vals, tells, told, fits, fits-at, copies, bares, wraps}
 use Rattle.walks.proofs.ByValue.{Value2, calls2}
-use Rattle.walks.proofs.RowAt.{below}
+use Rattle.walks.proofs.Lists.{below}
 
 module _ (R B : RattleType) (P : Plain R) (PB : Plain B) (d : R .Denot) (f : B .Denot → R .Denot → B .Denot) (rv : Rv) (start : B .Denot) (fold : B .Denot → List (R .Denot) → B .Denot) where
   abbrev pub signature : Signature
