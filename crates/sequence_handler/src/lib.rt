@@ -207,7 +207,7 @@ fn on_step(
 ) -> Handled
     ensures { λ res. ⌜ ((request : List ℕ) → now (body .entry) ≡ commandPart request → toldHandled res (now (share .exit)) (now (image .exit)) ≡ onStep c (now (share .entry)) (now (image .entry)) clock request h (sequenceStep c h)) ⌝ }
 {
-    let step = sequence_layer::sequence_step(c, h);
+    let step = stepping::sequence_step(c, h);
     match step {
         Step::Stepped(next, r) => after_step(next, share, image, clock, h, r, body),
         Step::Misfit(next) => Handled::Refused(next, Refusal::Sequence),
