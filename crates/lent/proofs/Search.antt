@@ -1,5 +1,5 @@
--- The search with the index finds the place of the first due record.
-use Prim.Native.Nat.{ℕ, suc, _+_}
+-- The search with the index finds the place of the first due record, and a tick that looks there is the tick.
+use Prim.Native.Nat.{ℕ, suc, _+_, _≤_}
 use native.Mathlib.Omega.{arith}
 use mathlib.Core.Bool.{Bool, true, false, not}
 use mathlib.Core.Path.{_≡_, refl, sym, ap, _∙_, subst}
@@ -10,10 +10,14 @@ use borrow.Author.Tests.{lt-ltb, le-ltb}
 use Rattle.picks.specs.Pick.{pick, first}
 use Rattle.picks.proofs.Picks.{pick-t}
 use Rattle.protocol.specs.declared.Connection.{Connection}
+use Rattle.protocol.specs.Constants.{RECORDS}
 use Rattle.protocol.specs.ConnectionTable.{isDue, chosen}
+use Rattle.protocol.specs.Tick.{tickOf}
+use Rattle.server.specs.Left.{tickAtOf}
+use Rattle.server.proofs.Calls.{tick-at-chosen}
 use Rattle.lent.specs.declared.Due.{Due}
 use Rattle.lent.specs.declared.Due.the-variants.{Nobody, At}
-use Rattle.lent.specs.Lent.{dueIn, betterOf}
+use Rattle.lent.specs.Lent.{dueIn, betterOf, duePlace}
 
 -- of b and the records that stand from place i on
 unfoldable pub dueFrom : Due → ℕ → List Connection → ℕ → Due
@@ -45,3 +49,24 @@ due-from i (c ∷ cs) k = due-next i cs k (isDue k c) (due-from (i + 1) cs k)
 pub due-is : (cs : List Connection) (k : ℕ) → dueFrom Nobody 0 cs k ≡ dueIn (chosen cs k) (length cs)
 unfolding chosen
 due-is cs k = due-from 0 cs k ∙ ap (λ (n : ℕ). pick (ltb (first (isDue k) cs) (length cs)) (At n) Nobody) (omega arith)
+
+-- the place that was found in a table of eight is the first due record's
+within-next : (b : Bool) (i n : ℕ) → i ≤ n → pick b 0 (suc i) ≤ suc n
+unfolding pick
+within-next true i n l = omega arith
+within-next false i n l = omega arith
+
+first-within : (k : ℕ) (cs : List Connection) → first (isDue k) cs ≤ length cs
+unfolding first
+first-within k [] = omega arith
+first-within k (c ∷ cs) = within-next (isDue k c) (first (isDue k) cs) (length cs) (first-within k cs)
+
+place-found : (i n : ℕ) → i ≤ n → n ≡ 8 → (y : Bool) → ltb i n ≡ y → duePlace (pick y (At i) Nobody) ≡ i
+unfolding pick RECORDS
+place-found i n l e true f = refl
+place-found i n l e false f = let h = nltb→le i n (subst (λ (z : Bool). T (not z)) (sym f) tt) in omega arith
+
+pub tick-at-found : (clock : ℕ) (image answer : List ℕ) (table : List Connection) (area : List ℕ) → length table ≡ 8 → tickAtOf (duePlace (dueIn (chosen table clock) (length table))) clock image answer table area ≡ tickOf clock image answer table area
+unfolding chosen
+tick-at-found clock image answer table area e =
+    tick-at-chosen clock image answer table area _ (place-found (chosen table clock) (length table) (first-within clock table) e (ltb (chosen table clock) (length table)) refl)

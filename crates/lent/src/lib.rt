@@ -6,18 +6,16 @@ use protocol::Outcome;
 use protocol::Refusal;
 use protocol::SdoClientInfo;
 use protocol::SdoServerState;
-use protocol::SequenceLayerHeader;
-use protocol::Step;
 use protocol::Ticked;
+use protocol::TickedRow;
 ghost use mathlib.Core.Path.{_≡_};
-ghost use lib.ListN.{length, replicate, getD, set};
-ghost use lib.Dec.{ltb};
+ghost use lib.ListN.{length, replicate};
 ghost use Rattle.protocol.specs.ConnectionTable.{fresh, deadlineOf, earlier, earliest, chosen};
-ghost use Rattle.protocol.specs.ConnectionRecord.{sequenceStep};
 ghost use Rattle.protocol.specs.Request.{toldOutcome, requestOf};
-ghost use Rattle.protocol.specs.Tick.{toldTicked, tickOf};
+ghost use Rattle.protocol.specs.Tick.{toldTicked, toldTickedRow, tickOf};
+ghost use Rattle.server.specs.Left.{tickAtOf};
 ghost use Rattle.protocol.specs.DeadlineQuery.{toldNextAction, queryOf};
-ghost use Rattle.lent.specs.Lent.{called, nextAction, askedOf, betterOf, dueIn, takenOf, toldStepping, saidAt};
+ghost use Rattle.lent.specs.Lent.{called, askedOf, betterOf, dueIn, duePlace};
 
 // A row of eight unused records.
 fn blank() -> [Connection; 8]
@@ -42,7 +40,7 @@ fn load(t: &[Connection]) -> [Connection; 8]
     let mut row = blank();
     let mut i = 0;
     while i < t.len() {
-        row = table::replaced(row, i, t[i]);
+        row[i] = t[i];
         i += 1;
     }
     row
@@ -55,7 +53,7 @@ fn save(t: &mut [Connection], row: [Connection; 8])
 {
     let mut i = 0;
     while i < t.len() {
-        t[i] = table::record_at(row, i);
+        t[i] = row[i];
         i += 1;
     }
 }
@@ -85,88 +83,6 @@ pub fn handle_request(
     let r = server::handle_request(load(table), area, image, answer, client, clock, request);
     save(table, r.table);
     r.outcome
-}
-
-// What tick answers to a table of another length.
-fn no_tick() -> Ticked
-    ensures { λ r. ⌜ r ≡ Ticked.Refused Refusal.Lent ⌝ }
-{
-    Ticked::Refused(Refusal::Lent)
-}
-
-// A tick of the clock.
-pub fn tick<'t, 'a, 'b>(
-    table: &'t mut [Connection],
-    area: &'a [u8],
-    image: &'a [u8],
-    answer: &'b mut [u8],
-    clock: u64,
-) -> Ticked
-    ensures { λ r. ⌜ called (toldTicked r) (now (answer .exit)) (now (table .exit)) (now (area .entry)) (now (image .entry)) ≡ tickOf clock (now (image .entry)) (now (answer .entry)) (now (table .entry)) (now (area .entry)) ⌝ }
-{
-    if table.len() != 8 {
-        return no_tick();
-    }
-    let r = server::tick(load(table), area, image, answer, clock);
-    save(table, r.table);
-    r.outcome
-}
-
-// The earlier of the best so far and a record's deadline.
-fn sooner(best: Deadline, c: Connection) -> Deadline
-    ensures { λ r. ⌜ r ≡ earlier best (deadlineOf c) ⌝ }
-{
-    table::earlier(best, table::deadline_of(c))
-}
-
-// The earliest deadline of a lent table of any length.
-pub fn earliest(table: &[Connection]) -> Deadline
-    ensures { λ r. ⌜ r ≡ earliest (now (table .entry)) ⌝ }
-{
-    let mut best = Deadline::NoDeadline;
-    let mut i = 0;
-    while i < table.len() {
-        best = sooner(best, table[i]);
-        i += 1;
-    }
-    best
-}
-
-// What next_action_time answers to a table of another length.
-fn no_query() -> NextAction
-    ensures { λ r. ⌜ r ≡ NextAction.Refused Refusal.Lent ⌝ }
-{
-    NextAction::Refused(Refusal::Lent)
-}
-
-// A row's earliest deadline as an answer, or a refusal where the row is not sound.
-fn asked(t: [Connection; 8], d: Deadline) -> NextAction
-    ensures { λ r. ⌜ r ≡ askedOf t d ⌝ }
-{
-    if table::is_sound(t) {
-        return next_action(d);
-    }
-    NextAction::Refused(Refusal::Table)
-}
-
-// A deadline as an answer.
-fn next_action(d: Deadline) -> NextAction
-    ensures { λ r. ⌜ r ≡ nextAction d ⌝ }
-{
-    match d {
-        Deadline::NoDeadline => NextAction::Nothing,
-        Deadline::At(n) => NextAction::At(n),
-    }
-}
-
-// The earliest deadline of a lent table of eight.
-pub fn next_action_time(table: &[Connection]) -> NextAction
-    ensures { λ r. ⌜ toldNextAction r ≡ queryOf (now (table .entry)) ⌝ }
-{
-    if table.len() != 8 {
-        return no_query();
-    }
-    asked(load(table), earliest(table))
 }
 
 // The place of the first record that is due, or that none is.
@@ -203,50 +119,99 @@ pub fn first_due(table: &[Connection], clock: u64) -> Due
     best
 }
 
-// What the sequence step says beside the record that it leaves: the answer's header so far, or that the frame does not fit.
-pub enum Stepping {
-    Answer(SequenceLayerHeader),
-    Misfit,
-}
-
-// The record after the sequence step, and what it says.
-pub struct Taken {
-    pub connection: Connection,
-    pub said: Stepping,
-}
-
-// The sequence step with the record and the rest apart.
-fn step_value(c: Connection, h: SequenceLayerHeader) -> Taken
-    ensures { λ r. ⌜ r ≡ takenOf (sequenceStep c h) ⌝ }
+// The place of the first due record, past the end where none is due.
+fn due_place(due: Due) -> usize
+    ensures { λ r. ⌜ r ≡ duePlace due ⌝ }
 {
-    let s = sequence_layer::sequence_step(c, h);
-    match s {
-        Step::Stepped(next, header) => Taken {
-            connection: next,
-            said: Stepping::Answer(header),
-        },
-        Step::Misfit(next) => Taken {
-            connection: next,
-            said: Stepping::Misfit,
-        },
+    match due {
+        Due::Nobody => 8,
+        Due::At(i) => i,
     }
 }
 
-// The sequence step on a single lent record, which is written back.
-pub fn step_record(c: &mut Connection, h: SequenceLayerHeader) -> Stepping
-    ensures { λ r. ⌜ toldStepping r (now (c .exit)) ≡ sequenceStep (now (c .entry)) h ⌝ }
+// A tick that looks at the record that a search found.
+fn tick_due<'a>(
+    t: [Connection; 8],
+    due: Due,
+    area: &'a [u8],
+    image: &'a [u8],
+    answer: &mut [u8],
+    clock: u64,
+) -> TickedRow
+    ensures { λ res. ⌜ toldTickedRow res (now (answer .exit)) (now (area .entry)) (now (image .entry)) ≡ tickAtOf (duePlace due) clock (now (image .entry)) (now (answer .entry)) t (now (area .entry)) ⌝ }
 {
-    let s = step_value(*c, h);
-    *c = s.connection;
-    s.said
+    server::tick_at(t, due_place(due), area, image, answer, clock)
 }
 
-// The sequence step on the record at a place of a lent table, which is changed where it lies; past the end none is, and the frame does not fit.
-pub fn step_at(table: &mut [Connection], i: usize, h: SequenceLayerHeader) -> Stepping
-    ensures { λ r. ⌜ (now (table .exit) ≡ set (now (table .entry)) i (takenOf (sequenceStep (getD (now (table .entry)) i (fresh 0)) h) .connection)) × (r ≡ saidAt (ltb i (length (now (table .entry)))) (now (table .entry)) i h) ⌝ }
+// What tick answers to a table of another length.
+fn no_tick() -> Ticked
+    ensures { λ r. ⌜ r ≡ Ticked.Refused Refusal.Lent ⌝ }
 {
-    if i < table.len() {
-        return step_record(&mut table[i], h);
+    Ticked::Refused(Refusal::Lent)
+}
+
+// A tick of the clock.
+pub fn tick<'t, 'a, 'b>(
+    table: &'t mut [Connection],
+    area: &'a [u8],
+    image: &'a [u8],
+    answer: &'b mut [u8],
+    clock: u64,
+) -> Ticked
+    ensures { λ r. ⌜ called (toldTicked r) (now (answer .exit)) (now (table .exit)) (now (area .entry)) (now (image .entry)) ≡ tickOf clock (now (image .entry)) (now (answer .entry)) (now (table .entry)) (now (area .entry)) ⌝ }
+{
+    if table.len() != 8 {
+        return no_tick();
     }
-    Stepping::Misfit
+    let due = first_due(table, clock);
+    let r = tick_due(load(table), due, area, image, answer, clock);
+    save(table, r.table);
+    r.outcome
+}
+
+// The earlier of the best so far and a record's deadline.
+fn sooner(best: Deadline, c: Connection) -> Deadline
+    ensures { λ r. ⌜ r ≡ earlier best (deadlineOf c) ⌝ }
+{
+    table::earlier(best, table::deadline_of(c))
+}
+
+// The earliest deadline of a lent table of any length.
+pub fn earliest(table: &[Connection]) -> Deadline
+    ensures { λ r. ⌜ r ≡ earliest (now (table .entry)) ⌝ }
+{
+    let mut best = Deadline::NoDeadline;
+    let mut i = 0;
+    while i < table.len() {
+        best = sooner(best, table[i]);
+        i += 1;
+    }
+    best
+}
+
+// What next_action_time answers to a table of another length.
+fn no_query() -> NextAction
+    ensures { λ r. ⌜ r ≡ NextAction.Refused Refusal.Lent ⌝ }
+{
+    NextAction::Refused(Refusal::Lent)
+}
+
+// A row's earliest deadline as an answer, or a refusal where the row is not sound.
+fn asked(t: [Connection; 8], d: Deadline) -> NextAction
+    ensures { λ r. ⌜ r ≡ askedOf t d ⌝ }
+{
+    if table::is_sound(t) {
+        return server::next_action(d);
+    }
+    NextAction::Refused(Refusal::Table)
+}
+
+// The earliest deadline of a lent table of eight.
+pub fn next_action_time(table: &[Connection]) -> NextAction
+    ensures { λ r. ⌜ toldNextAction r ≡ queryOf (now (table .entry)) ⌝ }
+{
+    if table.len() != 8 {
+        return no_query();
+    }
+    asked(load(table), earliest(table))
 }

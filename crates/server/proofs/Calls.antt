@@ -10,16 +10,19 @@ use borrow.Author.Tests.{ne-eqb}
 use Rattle.picks.specs.Pick.{pick}
 use Rattle.protocol.specs.declared.SdoClientInfo.{SdoClientInfo}
 use Rattle.protocol.specs.declared.Connection.{Connection}
+use Rattle.protocol.specs.declared.Deadline.{Deadline}
+use Rattle.protocol.specs.declared.Deadline.the-variants as D
 use Rattle.protocol.specs.Constants.{SHARE, RECORDS, AREA}
 use Rattle.protocol.specs.Coding.{Answer, refused, value}
 use Rattle.protocol.specs.ConnectionRecord.{Reply, Served, serve}
 use Rattle.protocol.specs.ConnectionTable.{fresh, soundTable, recordOf, update, shareOf, withShare, chosen, earliest, Ticking, ticks, tickRecord}
-use Rattle.protocol.specs.Calls.{To, Called, verdict}
+use Rattle.protocol.specs.Calls.{Verdict, refuse, accept, verdict, To, Called}
 use Rattle.protocol.specs.Request.{seated, answerWith, requestServed, accepted}
-use Rattle.protocol.specs.Tick.{tickTold, ticked}
-use Rattle.protocol.specs.DeadlineQuery.{queryTests, queryOf}
+use Rattle.protocol.specs.Tick.{tickTests, tickTold, tickAt, ticked, onTickVerdict, tickOf}
+use Rattle.protocol.specs.DeadlineQuery.{toldNextAction, queryTests, queryOf}
+use Rattle.server.specs.Left.{nextAction, onTickAt, tickAtOf}
 use Rattle.protocol.proofs.Requests.{Accepted, own-below, stored-sound}
-use Rattle.protocol.proofs.Ticks.{TickAccepted, due-there, due-kept, set-known}
+use Rattle.protocol.proofs.Ticks.{TickAccepted, answered-there, answered-used, lying-kept, set-lying}
 
 -- calls that agree in all that they return and leave
 pub same-called : {A : Type 0} {r r' : Answer A} {a a' : List ℕ} {t t' : List Connection} {b b' : List ℕ} (image : List ℕ) → r ≡ r' → a ≡ a' → t ≡ t' → b ≡ b' → _≡_ {A = Called A} (record { returned = r; answer = a; table = t; area = b; image = image }) (record { returned = r'; answer = a'; table = t'; area = b'; image = image })
@@ -62,23 +65,36 @@ module _ (clock : ℕ) (image answer : List ℕ) (table : List Connection) (area
   abbrev pub tickedOn : Connection → Ticking
   tickedOn c = tickRecord c (shareOf area (c .area)) image clock
 
-  module _ (i : ℕ) (c : Connection) (e : i ≡ chosen table clock) (f : c ≡ getD table i (fresh 0)) where
-    pub ticked-is : (x : Ticking) → tickedOn c ≡ x → tickTold clock image answer table area i c x ≡ ticked clock image answer table area
-    unfolding ticked
+  module _ (i : ℕ) (c : Connection) (f : c ≡ getD table i (fresh 0)) where
+    pub ticked-is : (x : Ticking) → tickedOn c ≡ x → tickTold clock image answer table area i c x ≡ tickAt clock image answer table area i
     ticked-is x g =
-        ap (tickTold clock image answer table area i c) (sym g) ∙ ap (λ k. tickTold clock image answer table area i k (tickedOn k)) f ∙ ap (λ j. tickTold clock image answer table area j (getD table j (fresh 0)) (tickedOn (getD table j (fresh 0)))) e
+        ap (tickTold clock image answer table area i c) (sym g) ∙ ap (λ k. tickTold clock image answer table area i k (tickedOn k)) f
 
     pub tick-stored : TickAccepted clock image answer table area → (next : Connection) (reply : Reply) → tickedOn c ≡ ticks next reply → soundTable (set table i next) ≡ true
     tick-stored ok next reply g =
-        let d : c ≡ getD table (chosen table clock) (fresh 0) = f ∙ ap (λ j. getD table j (fresh 0)) e in
-        let h = sym (ap tickedOn d) ∙ g in
-        let inside = due-there clock image answer table area ok next reply h in
-        ap (λ j. soundTable (set table j next)) e ∙ set-known clock image answer table area ok inside next (due-kept clock image answer table area ok inside .kept next reply h .0)
+        let h = sym (ap tickedOn f) ∙ g in
+        let inside = answered-there clock image answer table area ok i next reply h in
+        let used = answered-used clock image answer table area ok i inside next reply h in
+        set-lying clock image answer table area ok i inside used next (lying-kept clock image answer table area ok i inside .kept next reply h .0)
+
+  -- a tick that looks at the first due record is the tick
+  by-verdict : (v : Verdict) → onTickAt (chosen table clock) clock image answer table area v ≡ onTickVerdict clock image answer table area v
+  unfolding onTickVerdict ticked
+  by-verdict (refuse x) = refl
+  by-verdict accept = refl
+
+  pub tick-at-chosen : (i : ℕ) → i ≡ chosen table clock → tickAtOf i clock image answer table area ≡ tickOf clock image answer table area
+  unfolding tickAtOf tickOf
+  tick-at-chosen i e = ap (λ j. onTickAt j clock image answer table area (verdict (tickTests clock image answer table area))) e ∙ by-verdict (verdict (tickTests clock image answer table area))
 
 -- the deadline query of a row of eight
-pub query-sound : (t : List Connection) → length t ≡ 8 → soundTable t ≡ true → value (earliest t) ≡ queryOf t
+told-next : (d : Deadline) → toldNextAction (nextAction d) ≡ value d
+told-next D.NoDeadline = refl
+told-next (D.At n) = refl
+
+pub query-sound : (t : List Connection) → length t ≡ 8 → soundTable t ≡ true → toldNextAction (nextAction (earliest t)) ≡ queryOf t
 unfolding queryOf queryTests verdict pick RECORDS
-query-sound t e s = rw (e, s)
+query-sound t e s = rw (told-next (earliest t), e, s) refl
 
 pub query-unsound : (t : List Connection) → length t ≡ 8 → soundTable t ≡ false → refused 3 ≡ queryOf t
 unfolding queryOf queryTests verdict pick RECORDS

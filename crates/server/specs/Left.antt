@@ -1,4 +1,4 @@
--- What an answered request and a tick that answers leave, from the row and the record before it is stored.
+-- What an answered request and a tick that answers leave, from the row and the record before it is stored; a deadline as an answer.
 use Prim.Native.Nat.{ℕ}
 use mathlib.Core.List.{List}
 use lib.ListN.{length, set}
@@ -6,11 +6,15 @@ use Rattle.picks.specs.Pick.{pick}
 use Rattle.octets.specs.Octets.{splice}
 use Rattle.protocol.specs.declared.SdoClientInfo.{SdoClientInfo}
 use Rattle.protocol.specs.declared.Connection.{Connection}
-use Rattle.protocol.specs.Coding.{Answer, refused, value}
+use Rattle.protocol.specs.declared.Deadline.{Deadline}
+use Rattle.protocol.specs.declared.Deadline.the-variants as D
+use Rattle.protocol.specs.declared.NextAction.{NextAction}
+use Rattle.protocol.specs.declared.NextAction.the-variants as A
+use Rattle.protocol.specs.Coding.{Answer, refused, value, refusalNumber}
 use Rattle.protocol.specs.ConnectionRecord.{Reply}
 use Rattle.protocol.specs.ConnectionTable.{holds, update, release, isClosed}
-use Rattle.protocol.specs.Calls.{To, Called, frame}
-use Rattle.protocol.specs.Tick.{Told, somebody}
+use Rattle.protocol.specs.Calls.{Verdict, refuse, accept, verdict, To, Called, frame}
+use Rattle.protocol.specs.Tick.{Told, somebody, tickTests, tickAt}
 use Rattle.table.specs.Row.{isGone}
 
 -- the row with the record after the call, and without it where that is Closed
@@ -27,3 +31,16 @@ toldTo (value x) = value (somebody x)
 
 abbrev pub tickedCall : SdoClientInfo → List Connection → ℕ → Connection → Reply → List ℕ → List ℕ → List ℕ → Called Told
 tickedCall client row place next reply answer area image = record { returned = value (somebody (record { client = client; size = length (frame reply) })); answer = splice 0 (frame reply) answer; table = release isGone (set row place next); area = area; image = image }
+
+-- a deadline as an answer
+abbrev pub nextAction : Deadline → NextAction
+nextAction D.NoDeadline = A.Nothing
+nextAction (D.At n) = A.At n
+
+-- a tick that looks at the record at a given place: `tickOf` where that is the first due one's
+abbrev pub onTickAt : ℕ → ℕ → List ℕ → List ℕ → List Connection → List ℕ → Verdict → Called Told
+onTickAt i clock image answer table area (refuse x) = record { returned = refused (refusalNumber x); answer = answer; table = table; area = area; image = image }
+onTickAt i clock image answer table area accept = tickAt clock image answer table area i
+
+unfoldable pub tickAtOf : ℕ → ℕ → List ℕ → List ℕ → List Connection → List ℕ → Called Told
+tickAtOf i clock image answer table area = onTickAt i clock image answer table area (verdict (tickTests clock image answer table area))

@@ -19,14 +19,14 @@ ghost use Prim.Native.Nat.{_+_, _*_, _≤_};
 ghost use lib.ListN.{length, set};
 ghost use lib.Dec.{eqb, ltb};
 ghost use Rattle.protocol.specs.Constants.{SHARE, AREA, ANSWER-MIN};
-ghost use Rattle.protocol.specs.Coding.{value, toldWritten};
+ghost use Rattle.protocol.specs.Coding.{toldWritten};
 ghost use Rattle.protocol.specs.ConnectionRecord.{toldHandled, toldReply, serve};
 ghost use Rattle.protocol.specs.ConnectionTable.{soundTable, update, shareOf, withShare};
 ghost use Rattle.protocol.specs.Calls.{toldChecked, verdict, accept, addressed, answerWritten, answerLeft};
 ghost use Rattle.protocol.specs.Request.{toldOutcome, toldRequested, requestTests, accepted, requestOf};
-ghost use Rattle.protocol.specs.Tick.{toldTicked, toldTickedRow, tickTests, ticked, tickOf};
+ghost use Rattle.protocol.specs.Tick.{toldTicked, toldTickedRow, tickTests, tickAt, tickOf};
 ghost use Rattle.server.specs.Tests.{frameTests};
-ghost use Rattle.server.specs.Left.{settledRow, answeredCall, toldTo, tickedCall};
+ghost use Rattle.server.specs.Left.{settledRow, answeredCall, toldTo, tickedCall, nextAction, tickAtOf};
 ghost use Rattle.protocol.specs.DeadlineQuery.{toldNextAction, queryOf};
 
 // Whether the answer buffer or the area has a length that no call takes.
@@ -246,18 +246,18 @@ fn tick_answered<'a>(
     }
 }
 
-// A tick that passed the tests: the first due client is answered, then all Closed records are dropped.
+// A tick that passed the tests: the client of the record at a place is answered, then all Closed records are dropped.
 fn ticked<'a>(
     t: [Connection; 8],
+    place: usize,
     area: &'a [u8],
     image: &'a [u8],
     answer: &mut [u8],
     clock: u64,
 ) -> TickedRow
     requires { ⌜ verdict (tickTests clock (now image) (now answer) t (now area)) ≡ accept ⌝ }
-    ensures { λ res. ⌜ toldTickedRow res (now (answer .exit)) (now (area .entry)) (now (image .entry)) ≡ ticked clock (now (image .entry)) (now (answer .entry)) t (now (area .entry)) ⌝ }
+    ensures { λ res. ⌜ toldTickedRow res (now (answer .exit)) (now (area .entry)) (now (image .entry)) ≡ tickAt clock (now (image .entry)) (now (answer .entry)) t (now (area .entry)) place ⌝ }
 {
-    let place = table::first_due(t, clock);
     let c = table::record_at(t, place);
     let told = sequence_handler::tick(c, image, clock);
     match told {
@@ -271,7 +271,28 @@ fn ticked<'a>(
     }
 }
 
-// A tick of the clock.
+// A tick of the clock that looks at the record at a place.
+pub fn tick_at<'a>(
+    t: [Connection; 8],
+    place: usize,
+    area: &'a [u8],
+    image: &'a [u8],
+    answer: &mut [u8],
+    clock: u64,
+) -> TickedRow
+    ensures { λ res. ⌜ toldTickedRow res (now (answer .exit)) (now (area .entry)) (now (image .entry)) ≡ tickAtOf place clock (now (image .entry)) (now (answer .entry)) t (now (area .entry)) ⌝ }
+{
+    let checked = check_lent(t, area, image, answer, clock);
+    match checked {
+        Checked::Refused(x) => TickedRow {
+            outcome: Ticked::Refused(x),
+            table: t,
+        },
+        Checked::Accepted => ticked(t, place, area, image, answer, clock),
+    }
+}
+
+// A tick of the clock: it looks at the first due record.
 pub fn tick<'a>(
     t: [Connection; 8],
     area: &'a [u8],
@@ -281,19 +302,12 @@ pub fn tick<'a>(
 ) -> TickedRow
     ensures { λ res. ⌜ toldTickedRow res (now (answer .exit)) (now (area .entry)) (now (image .entry)) ≡ tickOf clock (now (image .entry)) (now (answer .entry)) t (now (area .entry)) ⌝ }
 {
-    let checked = check_lent(t, area, image, answer, clock);
-    match checked {
-        Checked::Refused(x) => TickedRow {
-            outcome: Ticked::Refused(x),
-            table: t,
-        },
-        Checked::Accepted => ticked(t, area, image, answer, clock),
-    }
+    tick_at(t, table::first_due(t, clock), area, image, answer, clock)
 }
 
 // A deadline as an answer.
-fn next_action(d: Deadline) -> NextAction
-    ensures { λ r. ⌜ toldNextAction r ≡ value d ⌝ }
+pub fn next_action(d: Deadline) -> NextAction
+    ensures { λ r. ⌜ r ≡ nextAction d ⌝ }
 {
     match d {
         Deadline::NoDeadline => NextAction::Nothing,

@@ -16,7 +16,7 @@ use Rattle.protocol.specs.ConnectionTable.{fresh, deadlineOf, earlier, earliest
 use Rattle.protocol.proofs.Connection as T
 use Rattle.protocol.proofs.Deadline as B
 use Rattle.protocol.proofs.Deadline.Laws as B′
-use Rattle.lent.proofs.Types.{conn, deadline}
+use Rattle.plain.proofs.Types.{conn, deadline}
 use Rattle.lent.proofs.sooner as c-sooner
 use Rattle.lent.proofs.sooner.Symbol as c-sooner-def
 use Rattle.lent.proofs.sooner.Met as c-sooner-thm

@@ -19,7 +19,8 @@ use Rattle.walks.proofs.Plain.{uint}
 use Rattle.protocol.proofs.Connection as T
 use Rattle.lent.proofs.Due as B
 use Rattle.lent.proofs.Due.Laws as B′
-use Rattle.lent.proofs.Types.{conn, due}
+use Rattle.plain.proofs.Types.{conn}
+use Rattle.lent.proofs.Types.{due}
 use Rattle.lent.proofs.Search.{dueFrom, due-is}
 use Rattle.lent.proofs.better as c-better
 use Rattle.lent.proofs.better.Symbol as c-better-def

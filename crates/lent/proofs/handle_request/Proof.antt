@@ -15,7 +15,7 @@ use Rattle.protocol.proofs.Connection as Connection
 use Rattle.protocol.proofs.Outcome as Outcome
 use Rattle.protocol.proofs.Requested as Requested
 use Rattle.protocol.proofs.SdoClientInfo as SdoClientInfo
-use Rattle.lent.proofs.Types.{conn, outcome, client, requested}
+use Rattle.plain.proofs.Types.{conn, outcome, client, requested}
 use Rattle.lent.proofs.OtherLength.{request-refused}
 use Rattle.lent.proofs.refused as c-refused
 use Rattle.lent.proofs.refused.Symbol as c-refused-def

@@ -7,13 +7,10 @@ use mathlib.Core.Path.{refl}
 use lib.ListN.{replicate}
 use Rattle.protocol.specs.ConnectionTable.{fresh}
 use Rattle.protocol.proofs.Connection as T
-use Rattle.lent.proofs.Types.{conn}
+use Rattle.plain.proofs.Types.{conn}
 use Rattle.lent.proofs.blank as c-blank
 use Rattle.lent.proofs.blank.Symbol as c-blank-def
 use Rattle.lent.proofs.blank.Met as c-blank-thm
-use Rattle.table.proofs.replaced as c-replaced
-use Rattle.table.proofs.replaced.Symbol as c-replaced-def
-use Rattle.table.proofs.replaced.Met as c-replaced-thm
 use Rattle.lent.proofs.load.Key as key
 use Rattle.lent.proofs.load as f
 use Rattle.lent.proofs.load.Statement as stated
@@ -25,6 +22,5 @@ load-spec 𝓤 H 𝓜 𝓖 𝓡 =
     entered 𝓤 H (tripleOf 𝓤 H (𝓖 .A) f.signature (f.spec 𝓤 H (𝓖 .A) (𝓜 .mem) (𝓡 .run)))
     (tables 𝓤 H 𝓜 𝓡 code.env .C) (tables 𝓤 H 𝓜 𝓡 code.env .Λ) key.name code.function (code.unfolded 𝓤 H 𝓜 𝓡)
     (load-meets T.the-row conn (fresh 0) 8 (replicate 8 (fresh 0)) tt refl
-    𝓤 H (𝓖 .A) (givenOf 𝓤 H 𝓜 𝓖) c-blank-def.name c-replaced-def.name (tablesOf 𝓤 H 𝓜 (tables 𝓤 H 𝓜 𝓡 code.env))
-    (cited 𝓤 H (tripleOf 𝓤 H (𝓖 .A) c-blank.signature (c-blank.spec 𝓤 H (𝓖 .A) (𝓜 .mem) (𝓡 .run))) 𝓜 𝓡 code.env c-blank-def.name c-blank-def.routine code.calls-lent·blank (c-blank-thm.met 𝓤 H 𝓜 𝓖 𝓡))
-    (cited 𝓤 H (tripleOf 𝓤 H (𝓖 .A) c-replaced.signature (c-replaced.spec 𝓤 H (𝓖 .A) (𝓜 .mem) (𝓡 .run))) 𝓜 𝓡 code.env c-replaced-def.name c-replaced-def.routine code.calls-table·replaced (c-replaced-thm.met 𝓤 H 𝓜 𝓖 𝓡)))
+    𝓤 H (𝓖 .A) (givenOf 𝓤 H 𝓜 𝓖) c-blank-def.name (tablesOf 𝓤 H 𝓜 (tables 𝓤 H 𝓜 𝓡 code.env))
+    (cited 𝓤 H (tripleOf 𝓤 H (𝓖 .A) c-blank.signature (c-blank.spec 𝓤 H (𝓖 .A) (𝓜 .mem) (𝓡 .run))) 𝓜 𝓡 code.env c-blank-def.name c-blank-def.routine code.calls-lent·blank (c-blank-thm.met 𝓤 H 𝓜 𝓖 𝓡)))

@@ -12,7 +12,7 @@ use Rattle.lent.specs.Lent.{askedOf}
 use Rattle.protocol.proofs.Connection as T
 use Rattle.protocol.proofs.Deadline as D
 use Rattle.protocol.proofs.NextAction as Y
-use Rattle.lent.proofs.Types.{conn, deadline, next-action}
+use Rattle.plain.proofs.Types.{conn, deadline, next-action}
 use Rattle.lent.proofs.OtherLength.{query-refused}
 use Rattle.lent.proofs.Query.{query-asked}
 use Rattle.lent.proofs.no_query as c-no-query

@@ -1,14 +1,11 @@
 -- A row is saved in a table of eight: `RowSave`, at a `Connection` and eight.
 use contract.Running.{givenOf, tables, tablesOf}
 use denote.Triple.Spec.{tripleOf}
-use denote.Triple.Table.{entered, cited}
+use denote.Triple.Table.{entered}
 use Rattle.walks.proofs.RowSave.{save-meets}
 use Rattle.protocol.specs.ConnectionTable.{fresh}
 use Rattle.protocol.proofs.Connection as T
-use Rattle.lent.proofs.Types.{conn}
-use Rattle.table.proofs.record_at as c-record-at
-use Rattle.table.proofs.record_at.Symbol as c-record-at-def
-use Rattle.table.proofs.record_at.Met as c-record-at-thm
+use Rattle.plain.proofs.Types.{conn}
 use Rattle.lent.proofs.save.Key as key
 use Rattle.lent.proofs.save as f
 use Rattle.lent.proofs.save.Statement as stated
@@ -20,5 +17,4 @@ save-spec 𝓤 H 𝓜 𝓖 𝓡 =
     entered 𝓤 H (tripleOf 𝓤 H (𝓖 .A) f.signature (f.spec 𝓤 H (𝓖 .A) (𝓜 .mem) (𝓡 .run)))
     (tables 𝓤 H 𝓜 𝓡 code.env .C) (tables 𝓤 H 𝓜 𝓡 code.env .Λ) key.name code.function (code.unfolded 𝓤 H 𝓜 𝓡)
     (save-meets T.the-row conn (fresh 0) 8 tt
-    𝓤 H (𝓖 .A) (givenOf 𝓤 H 𝓜 𝓖) c-record-at-def.name (tablesOf 𝓤 H 𝓜 (tables 𝓤 H 𝓜 𝓡 code.env))
-    (cited 𝓤 H (tripleOf 𝓤 H (𝓖 .A) c-record-at.signature (c-record-at.spec 𝓤 H (𝓖 .A) (𝓜 .mem) (𝓡 .run))) 𝓜 𝓡 code.env c-record-at-def.name c-record-at-def.routine code.calls-table·record-at (c-record-at-thm.met 𝓤 H 𝓜 𝓖 𝓡)))
+    𝓤 H (𝓖 .A) (givenOf 𝓤 H 𝓜 𝓖) (tablesOf 𝓤 H 𝓜 (tables 𝓤 H 𝓜 𝓡 code.env)))

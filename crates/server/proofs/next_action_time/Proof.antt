@@ -1,6 +1,7 @@
 -- A sound row or not.
 use Rattle.server.proofs.Calls.{query-sound, query-unsound}
-use Rattle.protocol.specs.Coding.{value}
+use Rattle.protocol.specs.DeadlineQuery.{toldNextAction}
+use Rattle.server.specs.Left.{nextAction}
 use Rattle.picks.proofs.Picks.{flag}
 use mathlib.Core.Path.{ap, _∙_}
 use borrow.Author.Needs.{needs}
@@ -8,7 +9,7 @@ use Rattle.server.proofs.next_action_time.Statement.{statement}
 use Rattle.server.proofs.next_action_time.Tie as tie
 
 returns : tie.Need-returns
-returns c = c .next-action .ensures ∙ ap value (c .before .next-deadline .ensures) ∙ query-sound (c .before .before .before .before .args .t) (search needs) (flag (c .before .before .before .is-sound .ensures) (c .before .before .if1 .taken))
+returns c = ap toldNextAction (c .next-action .ensures) ∙ ap (λ d. toldNextAction (nextAction d)) (c .before .next-deadline .ensures) ∙ query-sound (c .before .before .before .before .args .t) (search needs) (flag (c .before .before .before .is-sound .ensures) (c .before .before .if1 .taken))
 
 returns-2 : tie.Need-returns-2
 returns-2 c = query-unsound (c .before .before .args .t) (search needs) (flag (c .before .is-sound .ensures) (c .if1 .left))

@@ -1,38 +1,14 @@
--- Refused, or accepted.
-use Rattle.picks.proofs.Picks.{at-case}
-use Rattle.protocol.specs.Calls.{toldChecked}
-use Rattle.protocol.specs.Tick.{onTickVerdict, tickOf}
-use mathlib.Core.Path.{refl, sym, ap, _∙_}
+-- The tick that looks at the first due record.
+use Rattle.server.proofs.Calls.{tick-at-chosen}
+use mathlib.Core.Path.{_∙_}
 use borrow.Author.Needs.{needs}
 use Rattle.server.proofs.tick.Statement.{statement}
 use Rattle.server.proofs.tick.Tie as tie
 
-ticked-requires : tie.Need-ticked-requires
-ticked-requires c κs = sym (c .before .before .before .check-lent .ensures) ∙ ap toldChecked (c .before .enum-told .given .1)
-
 returns : tie.Need-returns
-unfolding tickOf onTickVerdict
 returns c =
     let a = c .before .before .before .before .before .before .before .before .args in
-    let f = onTickVerdict (a .clock) (a .image .now) (a .answer .now) (a .t) (a .area .now) in
-    at-case (λ r. f (toldChecked r)) (c .before .checked .given .1) (refl) ∙ ap f (c .before .before .before .check-lent .ensures)
-
-returns-2 : tie.Need-returns-2
-unfolding tickOf onTickVerdict
-returns-2 c =
-    let a = c .before .before .before .before .before .before .before .before .before .before .before .args in
-    let f = onTickVerdict (a .clock) (a .image .now) (a .answer .now) (a .t) (a .area .now) in
-    at-case (λ r. f (toldChecked r)) (c .before .before .before .before .enum-told .given .1) (c .before .before .ticked .ensures) ∙ ap f (c .before .before .before .before .before .before .check-lent .ensures)
+    c .before .before .tick-at .ensures ∙ tick-at-chosen (a .clock) (a .image .now) (a .answer .now) (a .t) (a .area .now) _ (c .before .before .before .before .first-due .ensures)
 
 pub tick-spec : {M : Type 1} → statement M
-tick-spec =
-    tie.close
-    (tie.spec
-    (λ c κs. search needs)
-    (λ c. search needs)
-    (λ c. search needs)
-    ticked-requires
-    (λ c. search needs)
-    returns
-    (λ c. search needs)
-    returns-2)
+tick-spec = tie.close (tie.spec (λ c κs. search needs) (λ c κs. search needs) (λ c. search needs) returns)
