@@ -8,7 +8,8 @@ use borrow.Author.Tests.{le-leb, lt-leb}
 use Rattle.protocol.specs.Constants.{IMAGE-MAX}
 use Rattle.protocol.specs.DictionaryImage.{entryCount, contentsEnd, entries, entriesFrom, soundEntries, soundImage}
 
-and-false : (b : Bool) → (b && false) ≡ false
+-- a test that fails after others
+pub and-false : (b : Bool) → (b && false) ≡ false
 and-false true = refl
 and-false false = refl
 

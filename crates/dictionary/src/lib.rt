@@ -4,11 +4,13 @@ use protocol::Entry;
 use protocol::Lookup;
 ghost use mathlib.Core.Path.{_≡_};
 ghost use Prim.Native.Nat.{_+_, _*_, _≤_};
-ghost use lib.ListN.{length};
+ghost use mathlib.Core.Bool.{_&&_};
+ghost use lib.Dec.{eqb};
+ghost use lib.ListN.{length, getD, take, drop};
 ghost use Rattle.picks.specs.Pick.{pick};
-ghost use Rattle.octets.specs.Octets.{leBytes, splice};
+ghost use Rattle.octets.specs.Octets.{le, leBytes, splice};
 ghost use Rattle.protocol.specs.declared.Lookup.the-variants.{NoObject, NoSubIndex, Found};
-ghost use Rattle.protocol.specs.DictionaryImage.{entryAt, entriesFrom, isVariable, isReadOnly, key, soundEntry, soundEntries, soundImage, isAt, lookup, valueOf, readable, parameterOf, timeoutOf, retriesOf, writable, writeImage};
+ghost use Rattle.protocol.specs.DictionaryImage.{entryAt, entriesFrom, isVariable, isReadOnly, key, soundEntry, soundEntries, soundImage, lookup, valueOf, readable, parameterOf, timeoutOf, retriesOf, writable, writeImage};
 
 // The longest image, and the largest capacity of an entry.
 const IMAGE_MAX: usize = 65536;
@@ -54,6 +56,50 @@ pub fn entry_at(image: &[u8], at: usize) -> Entry
     }
 }
 
+// The byte at a place within the image.
+fn byte_in(image: &[u8], at: usize) -> u8
+    requires { ⌜ at + 1 ≤ length (now image) ⌝ }
+    ensures { λ r. ⌜ r ≡ getD (now (image .entry)) at 0 ⌝ }
+{
+    image[at]
+}
+
+// The u16 at a place within the image.
+fn u16_in(image: &[u8], at: usize) -> u16
+    requires { ⌜ at + 2 ≤ length (now image) ⌝ }
+    ensures { λ r. ⌜ r ≡ le (take 2 (drop at (now (image .entry)))) ⌝ }
+{
+    let low = byte_in(image, at);
+    let high = byte_in(image, at + 1);
+    (low as u16) + 256 * (high as u16)
+}
+
+// The u32 at a place within the image.
+fn u32_in(image: &[u8], at: usize) -> u32
+    requires { ⌜ at + 4 ≤ length (now image) ⌝ }
+    ensures { λ r. ⌜ r ≡ le (take 4 (drop at (now (image .entry)))) ⌝ }
+{
+    let low = u16_in(image, at);
+    let high = u16_in(image, at + 2);
+    (low as u32) + 65536 * (high as u32)
+}
+
+// The entry at a place, all of it within the image.
+fn entry_in(image: &[u8], at: usize) -> Entry
+    requires { ⌜ at + 12 ≤ length (now image) ⌝ }
+    ensures { λ r. ⌜ r ≡ entryAt (now (image .entry)) at ⌝ }
+{
+    Entry {
+        place: at,
+        index: u16_in(image, at),
+        sub: byte_in(image, at + 2),
+        flags: byte_in(image, at + 3),
+        body: u32_in(image, at + 4),
+        capacity: u16_in(image, at + 8),
+        length: u16_in(image, at + 10),
+    }
+}
+
 // Whether an entry's length may be below its capacity.
 pub fn is_variable(e: Entry) -> bool
     ensures { λ r. ⌜ r ≡ isVariable e ⌝ }
@@ -83,13 +129,25 @@ fn key_of(e: Entry) -> u32
 fn is_sound(e: Entry, least: u32, start: u32) -> bool
     ensures { λ r. ⌜ r ≡ soundEntry least start e ⌝ }
 {
-    (least <= key_of(e))
-        & (e.flags <= 3)
-        & (1 <= e.capacity)
-        & (e.capacity <= CAPACITY_MAX)
-        & (e.body == start)
-        & (e.length <= e.capacity)
-        & (is_variable(e) | (e.length == e.capacity))
+    if key_of(e) < least {
+        return false;
+    }
+    if 3 < e.flags {
+        return false;
+    }
+    if e.capacity < 1 {
+        return false;
+    }
+    if CAPACITY_MAX < e.capacity {
+        return false;
+    }
+    if e.body != start {
+        return false;
+    }
+    if e.capacity < e.length {
+        return false;
+    }
+    is_variable(e) | (e.length == e.capacity)
 }
 
 // Whether the first n entries of an image are sound, one behind the other, up to its end.
@@ -101,7 +159,7 @@ fn sound_entries(image: &[u8], n: usize) -> bool
     let mut least: u32 = 0;
     let mut start: u32 = (2 + 12 * n) as u32;
     while i < n {
-        let e = entry_at(image, 2 + 12 * i);
+        let e = entry_in(image, 2 + 12 * i);
         if is_sound(e, least, start) {
             let capacity = e.capacity;
             least = key_of(e) + 1;
@@ -132,11 +190,27 @@ pub fn sound_image(image: &[u8]) -> bool
     sound_entries(image, n)
 }
 
-// Whether an entry has this index and sub-index.
-fn is_at(e: Entry, index: u16, sub: u8) -> bool
-    ensures { λ r. ⌜ r ≡ isAt index sub e ⌝ }
+// Whether the entry at a place, one that a count of entries can reach, has this index.
+fn has_index(image: &[u8], at: usize, index: u16) -> bool
+    requires { ⌜ at ≤ 786422 ⌝ }
+    ensures { λ r. ⌜ r ≡ eqb (entryAt (now (image .entry)) at .index) index ⌝ }
 {
-    (e.index == index) & (e.sub == sub)
+    if image.len() < at + 2 {
+        return octets::u16_at(image, at) == index;
+    }
+    u16_in(image, at) == index
+}
+
+// Whether an entry's index is the one asked for, and the entry at the place has this sub-index.
+fn has_sub(image: &[u8], at: usize, sub: u8, here: bool) -> bool
+    ensures { λ r. ⌜ r ≡ (here && eqb (entryAt (now (image .entry)) at .sub) sub) ⌝ }
+{
+    if here {
+        let e = entry_at(image, at);
+        e.sub == sub
+    } else {
+        false
+    }
 }
 
 // What is missing: the sub-index of an object that was seen, or the object.
@@ -159,11 +233,11 @@ pub fn lookup(image: &[u8], index: u16, sub: u8) -> Lookup
     let mut seen = false;
     while i < n {
         let at = 2 + 12 * i;
-        let e = entry_at(image, at);
-        if is_at(e, index, sub) {
-            return Lookup::Found(e);
+        let here = has_index(image, at, index);
+        if has_sub(image, at, sub, here) {
+            return Lookup::Found(entry_at(image, at));
         }
-        seen = seen | (e.index == index);
+        seen = seen | here;
         if image.len() <= at {
             return missing(seen);
         }

@@ -1,9 +1,10 @@
 -- What is looked up is what the entries from the turn's on give, and whether the index was seen before them.
 use Prim.Native.Nat.{_+_, _*_, _-_, _≤_}
 use native.Mathlib.Nat.{sub-zero}
-use mathlib.Core.Path.{_≡_, _∙_}
+use mathlib.Core.Path.{_≡_, refl, ap, _∙_}
 use Rattle.picks.proofs.Picks.{flag}
-use Rattle.protocol.specs.DictionaryImage.{entries, entriesFrom, lookupIn, lookup}
+use Rattle.protocol.specs.declared.Lookup.the-variants.{Found}
+use Rattle.protocol.specs.DictionaryImage.{entryAt, entries, entriesFrom, lookupIn, lookup}
 use Rattle.dictionary.proofs.Walk.{lookup-here, lookup-more, lookup-past, lookup-end}
 use borrow.Author.Needs.{needs}
 use native.Mathlib.Omega.{arith}
@@ -23,31 +24,31 @@ loop-holds c = (search needs, search needs, rw (sub-zero (c .u16-at .result), c 
 
 returns : tie.Need-returns Inv-loop μ-loop
 returns c =
-    let b = c .before .before in
-    let l = b .before .before .loop in
-    let n = b .before .before .before .u16-at .result in
-    let a = b .before .before .before .before .before .args in
-    lookup-here (a .image .now) n (l .i) (b .entry-at .result) (omega arith) (b .entry-at .ensures) _ _ _ (l .inv .2) (flag (c .before .is-at .ensures) (c .if1 .taken))
+    let h = c .before .before .before in
+    let l = h .before .before .loop in
+    let n = h .before .before .before .u16-at .result in
+    let a = h .before .before .before .before .before .args in
+    ap Found (c .entry-at .ensures) ∙ lookup-here (a .image .now) n (l .i) (entryAt (a .image .now) (2 + 12 * l .i)) (omega arith) refl _ _ _ (l .inv .2) (rw (h .has-index .ensures) at (flag (c .before .before .has-sub .ensures) (c .before .if1 .taken)))
 
 returns-2 : tie.Need-returns-2 Inv-loop μ-loop
 returns-2 c =
-    let d = c .before .before .before .before in
-    let b = d .before in
-    let l = b .before .before .loop in
-    let n = b .before .before .before .u16-at .result in
-    let a = b .before .before .before .before .before .args in
-    c .missing .ensures ∙ lookup-past (a .image .now) n (l .i) (b .entry-at .result) (omega arith) (b .entry-at .ensures) _ _ _ (l .inv .2) (c .before .if2 .taken) (flag (d .is-at .ensures) (c .before .before .before .if1 .left))
+    let d = c .before .before .before in
+    let h = d .before in
+    let l = h .before .before .loop in
+    let n = h .before .before .before .u16-at .result in
+    let a = h .before .before .before .before .before .args in
+    c .missing .ensures ∙ rw (h .has-index .ensures) (lookup-past (a .image .now) n (l .i) (entryAt (a .image .now) (2 + 12 * l .i)) (omega arith) refl _ _ _ (l .inv .2) (c .before .if2 .taken) (rw (h .has-index .ensures) at (flag (d .has-sub .ensures) (c .before .before .if1 .left))))
 
 loop-again : tie.Need-loop-again Inv-loop μ-loop
 loop-again c =
-    let d = c .before .before .before in
-    let b = d .before in
-    let l = b .before .before .loop in
-    let n = b .before .before .before .u16-at .result in
-    let a = b .before .before .before .before .before .args in (
+    let d = c .before .before in
+    let h = d .before in
+    let l = h .before .before .loop in
+    let n = h .before .before .before .u16-at .result in
+    let a = h .before .before .before .before .before .args in (
       search needs,
       search needs,
-      lookup-more (a .image .now) n (l .i) (b .entry-at .result) (omega arith) (b .entry-at .ensures) _ _ _ (l .inv .2) (flag (d .is-at .ensures) (c .before .before .if1 .left)),
+      rw (h .has-index .ensures) (lookup-more (a .image .now) n (l .i) (entryAt (a .image .now) (2 + 12 * l .i)) (omega arith) refl _ _ _ (l .inv .2) (rw (h .has-index .ensures) at (flag (d .has-sub .ensures) (c .before .if1 .left)))),
     )
 
 returns-3 : tie.Need-returns-3 Inv-loop μ-loop
@@ -68,6 +69,7 @@ lookup-spec =
     loop-holds
     (λ c. search needs)
     (λ c. search needs)
+    (λ c κs. search needs)
     (λ c κs. search needs)
     (λ c κs. search needs)
     returns

@@ -28,7 +28,7 @@ loop-again c =
     let a = b .before .before .before .before .args in (
       search needs,
       search needs,
-      sound-more (a .image .now) (a .n) (l .i) (b .entry-at .result) (omega arith) (b .entry-at .ensures) _ _ _ (l .inv .2) _ (c .key-of .ensures) (flag (c .before .before .is-sound .ensures) (c .before .if1 .taken)),
+      sound-more (a .image .now) (a .n) (l .i) (b .entry-in .result) (omega arith) (b .entry-in .ensures) _ _ _ (l .inv .2) _ (c .key-of .ensures) (flag (c .before .before .is-sound .ensures) (c .before .if1 .taken)),
     )
 
 returns : tie.Need-returns Inv-loop μ-loop
@@ -36,7 +36,7 @@ returns c =
     let b = c .before .before in
     let l = b .before .before .loop in
     let a = b .before .before .before .before .args in
-    sound-not (a .image .now) (a .n) (l .i) (b .entry-at .result) (omega arith) (b .entry-at .ensures) _ _ _ (l .inv .2) (flag (c .before .is-sound .ensures) (c .if1 .left))
+    sound-not (a .image .now) (a .n) (l .i) (b .entry-in .result) (omega arith) (b .entry-in .ensures) _ _ _ (l .inv .2) (flag (c .before .is-sound .ensures) (c .if1 .left))
 
 returns-2 : tie.Need-returns-2 Inv-loop μ-loop
 returns-2 c =
