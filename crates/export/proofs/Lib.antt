@@ -1,0 +1,4 @@
+pub mod Through
+pub mod Refusals
+pub mod Narrow
+pub mod ReadBack

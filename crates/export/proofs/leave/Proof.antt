@@ -1,0 +1,26 @@
+-- Left by refusals 1 to 7, and else stored.
+use Rattle.export.specs.Exported.{tableLeft}
+use mathlib.Core.Path.{refl, sym, _∙_}
+use borrow.Author.Tests.{eq-eqb}
+use Rattle.picks.proofs.Picks.{pick-t, pick-f}
+use borrow.Author.Needs.{needs}
+use Rattle.export.proofs.leave.Statement.{statement}
+use Rattle.export.proofs.leave.Tie as tie
+
+returns : tie.Need-returns
+unfolding tableLeft
+returns c = pick-t _ _ _ _ (c .if1 .taken) refl
+
+returns-2 : tie.Need-returns-2
+unfolding tableLeft
+returns-2 c =
+    let stored = pick-t _ _ _ _ (eq-eqb _ _ (c .before .before .before .before .before .before .pre)) refl in pick-f _ _ _ _ (c .before .before .before .before .if1 .left) (c .before .before .put-table .ensures ∙ sym stored)
+
+pub leave-spec : {M : Type 1} → statement M
+leave-spec =
+    tie.close
+    (tie.spec
+    returns
+    (λ c κs. search needs)
+    (λ c. search needs)
+    returns-2)
