@@ -1,6 +1,6 @@
 // Calls of the server, each printed with what was given, what came out and what it left. A call is right when the whole answer buffer, the answer's length, the refusal, the records in use and the image are as they should be.
-use crate::show;
-use crate::show::Score;
+use crate::rows;
+use crate::rows::Score;
 use protocol::Connection;
 use protocol::Outcome;
 use protocol::Refusal;
@@ -222,7 +222,7 @@ fn ticked(outcome: Ticked, t: [Connection; 8]) -> Came {
 
 // Puts the answer that is due at the start of a buffer, and answers its length.
 fn put_due(head: &[u8], object: &[u8], due: Due, wanted: &mut [u8]) -> usize {
-    let n = show::read(head, wanted);
+    let n = rows::read(head, wanted);
     octets::copy_at(wanted, n, octets::part(object, due.from, due.size));
     std::num::wrapping_add_usize(n, due.size)
 }
@@ -256,7 +256,7 @@ fn say_came(came: Came, answer: &[u8]) {
     show::say_start(octets::part(answer, 0, came.len), 16);
     if came.refused > 0 {
         show::say(b" refused with ");
-        show::say_number(came.refused as usize);
+        show::say_number(came.refused as u64);
     } else if came.len == 0 {
         show::say(b" nothing");
     }
@@ -269,12 +269,12 @@ fn say_due(head: &[u8], due: Due) {
     show::say(head);
     if due.size > 0 {
         show::say(b" and ");
-        show::say_number(due.size);
+        show::say_number(due.size as u64);
         show::say(b" bytes of the object");
     }
     if due.refused > 0 {
         show::say(b" refused with ");
-        show::say_number(due.refused as usize);
+        show::say_number(due.refused as u64);
     }
     say_left(due.left);
 }
@@ -300,12 +300,12 @@ pub fn asks(
 ) -> Bench {
     let mut answer = [FILL; 1468];
     let t = b.table;
-    let r = server::handle_request(t, area, image, &mut answer, client(), 0, bytes);
+    let r = owned::handle_request(t, area, image, &mut answer, client(), 0, bytes);
     let after = r.table;
     let outcome = r.outcome;
     let came = requested(outcome, after);
     let same = is_right(came, &answer, image, head, object, due);
-    let score = show::verdict(b.score, same);
+    let score = rows::verdict(b.score, same);
     show::say(what);
     say_given(bytes);
     say_outcome(came, &answer, same, head, due);
@@ -329,7 +329,7 @@ fn left_of(word: &[u8]) -> u8 {
 // What should come, by the end of a line: the image's part as a place and a length of two bytes each, and the word for what is left.
 fn due_of(text: &[u8]) -> Due {
     let mut part = [0u8; 4];
-    show::read(show::before(text, b'|'), &mut part);
+    rows::read(show::before(text, b'|'), &mut part);
     let from = octets::u16_at(&part, 0);
     let size = octets::u16_at(&part, 2);
     sends(
@@ -346,7 +346,7 @@ fn step(b: Bench, area: &mut [u8], image: &mut [u8], object: &[u8], line: &[u8])
     let given = show::behind(line, b'|');
     let head = show::behind(given, b'|');
     let due = due_of(show::behind(head, b'|'));
-    let n = show::read(show::before(given, b'|'), &mut space);
+    let n = rows::read(show::before(given, b'|'), &mut space);
     let bytes = octets::part(&space, 0, n);
     asks(
         b,
@@ -409,12 +409,12 @@ pub fn ticks<'a>(
 ) -> Bench {
     let mut answer = [FILL; 1468];
     let t = b.table;
-    let r = server::tick(t, area, image, &mut answer, clock);
+    let r = owned::tick(t, area, image, &mut answer, clock);
     let after = r.table;
     let outcome = r.outcome;
     let came = ticked(outcome, after);
     let same = is_right(came, &answer, image, head, image, due);
-    let score = show::verdict(b.score, same);
+    let score = rows::verdict(b.score, same);
     say_clock(clock);
     say_outcome(came, &answer, same, head, due);
     Bench {

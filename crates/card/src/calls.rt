@@ -1,6 +1,6 @@
 // The rows of the bench card that are calls.
 use crate::bench;
-use crate::show::Score;
+use crate::rows::Score;
 use protocol::Deadline;
 use protocol::SdoServerState;
 use protocol::SdoTransferState;

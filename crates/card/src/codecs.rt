@@ -1,6 +1,6 @@
 // Rows that a codec decides.
-use crate::show;
-use crate::show::Score;
+use crate::rows;
+use crate::rows::Score;
 use protocol::CommandId;
 use protocol::CommandLayerHeader;
 use protocol::CommandRead;
@@ -23,7 +23,7 @@ fn written(w: Written, buffer: &[u8]) -> &[u8] {
 // A header of four bytes, the numbers and then the marks, receive before send, is encoded.
 fn header_row(s: Score, what: &[u8], given: &[u8], expected: &[u8]) -> Score {
     let mut h = [0u8; 4];
-    show::read(given, &mut h);
+    rows::read(given, &mut h);
     let header = SequenceLayerHeader {
         receive: h[0],
         rcon: sequence::receive_con_state(h[2]),
@@ -32,13 +32,13 @@ fn header_row(s: Score, what: &[u8], given: &[u8], expected: &[u8]) -> Score {
     };
     let mut out = [0u8; 16];
     let w = sequence::serialize(header, &mut out);
-    show::row(s, what, b"", written(w, &out), expected)
+    rows::row(s, what, b"", written(w, &out), expected)
 }
 
 // A header is decoded to its numbers and marks.
 fn header_read_row(s: Score, what: &[u8], given: &[u8], expected: &[u8]) -> Score {
     let mut space = [0u8; 16];
-    let n = show::read(given, &mut space);
+    let n = rows::read(given, &mut space);
     let header = sequence::deserialize(octets::part(&space, 0, n));
     match header {
         HeaderRead::Header(h) => {
@@ -47,23 +47,23 @@ fn header_read_row(s: Score, what: &[u8], given: &[u8], expected: &[u8]) -> Scor
             let mut came = [h.receive, h.send, 0, 0];
             octets::store_u8(&mut came, 2, sequence::receive_mark(rcon));
             octets::store_u8(&mut came, 3, sequence::send_mark(scon));
-            show::row(s, what, given, &came, expected)
+            rows::row(s, what, given, &came, expected)
         }
-        HeaderRead::BufferTooShort => show::row(s, what, given, b"", expected),
+        HeaderRead::BufferTooShort => rows::row(s, what, given, b"", expected),
     }
 }
 
 // The number after a number.
 fn next_row(s: Score, what: &[u8], given: &[u8], expected: &[u8]) -> Score {
     let mut n = [0u8; 1];
-    show::read(given, &mut n);
-    show::row(s, what, b"", &[sequence::next_number(n[0])], expected)
+    rows::read(given, &mut n);
+    rows::row(s, what, b"", &[sequence::next_number(n[0])], expected)
 }
 
 // An Expedited Nil answer to a transaction is encoded, with the bytes after the transaction as its payload.
 fn answer_row(s: Score, aborted: bool, what: &[u8], given: &[u8], expected: &[u8]) -> Score {
     let mut space = [0u8; 16];
-    let n = show::read(given, &mut space);
+    let n = rows::read(given, &mut space);
     let bytes = octets::part(&space, 0, n);
     let payload = octets::rest(bytes, 1);
     let header = CommandLayerHeader {
@@ -77,7 +77,7 @@ fn answer_row(s: Score, aborted: bool, what: &[u8], given: &[u8], expected: &[u8
     let total = DataSize::NoSize;
     let mut out = [0u8; 32];
     let w = command::serialize(SdoCommand { header, total }, payload, &mut out);
-    show::row(s, what, given, written(w, &out), expected)
+    rows::row(s, what, given, written(w, &out), expected)
 }
 
 // The total of an Initiate goes behind the other fields; the payload begins there elsewhere.
@@ -113,7 +113,7 @@ fn fields(c: SdoCommand, payload: &[u8], came: &mut [u8]) -> usize {
 // A command is decoded to its fields and payload; an undecodable one to its transaction id.
 fn command_read_row(s: Score, what: &[u8], given: &[u8], expected: &[u8]) -> Score {
     let mut space = [0u8; 32];
-    let n = show::read(given, &mut space);
+    let n = rows::read(given, &mut space);
     let bytes = octets::part(&space, 0, n);
     let id = command::undecodable_transaction(bytes);
     let read = command::deserialize(bytes);
@@ -123,21 +123,21 @@ fn command_read_row(s: Score, what: &[u8], given: &[u8], expected: &[u8]) -> Sco
             let payload = command::payload(c.header, bytes);
             let at = fields(c, payload, &mut came);
             let k = std::num::wrapping_add_usize(at, payload.len());
-            show::row(s, what, given, octets::part(&came, 0, k), expected)
+            rows::row(s, what, given, octets::part(&came, 0, k), expected)
         }
-        CommandRead::BufferTooShort => show::row(s, what, given, &[id], expected),
-        CommandRead::Undecodable => show::row(s, what, given, &[id], expected),
+        CommandRead::BufferTooShort => rows::row(s, what, given, &[id], expected),
+        CommandRead::Undecodable => rows::row(s, what, given, &[id], expected),
     }
 }
 
 // A byte is read as a command id and written again; an unknown one comes out as FF.
 fn id_row(s: Score, what: &[u8], given: &[u8], expected: &[u8]) -> Score {
     let mut b = [0u8; 1];
-    show::read(given, &mut b);
+    rows::read(given, &mut b);
     let read = command::command_id(b[0]);
     match read {
-        IdRead::Id(id) => show::row(s, what, b"", &[command::id_byte(id)], expected),
-        IdRead::InvalidEnumValue => show::row(s, what, b"", &[0xFF], expected),
+        IdRead::Id(id) => rows::row(s, what, b"", &[command::id_byte(id)], expected),
+        IdRead::InvalidEnumValue => rows::row(s, what, b"", &[0xFF], expected),
     }
 }
 

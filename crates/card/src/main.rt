@@ -2,10 +2,10 @@
 mod bench;
 mod calls;
 mod codecs;
-mod show;
+mod rows;
 mod tables;
 
-use crate::show::Score;
+use crate::rows::Score;
 
 fn codec_rows(s: Score) -> Score {
     let text = b"Bench card: the rows that the codec decides, bytes in hex. A header is

@@ -1,104 +1,20 @@
 // What a call leaves, as bytes of the transcript: oracle/REPLAY.md has the format.
 use protocol::Connection;
-use protocol::NextAction;
-use protocol::Outcome;
-use protocol::Refusal;
 use protocol::SdoClientInfo;
-use protocol::Ticked;
+use script::ANSWER;
+use script::told::Told;
 ghost use Prim.Native.Nat.{_+_, _<_, _≤_};
 ghost use lib.ListN.{length};
-
-// What every byte of the answer buffer is before a call.
-pub const FILL: u8 = 0xA5;
 
 // The prime of Adler-32, and how many bytes are summed up between two remainders.
 const PRIME: u64 = 65521;
 
 const BLOCK: usize = 4096;
 
-// What a call of any kind says: the transcript's code, an answer's client and length, a deadline.
-pub struct Told {
-    pub code: u8,
-    pub client: SdoClientInfo,
-    pub length: usize,
-    pub time: u64,
-}
-
 // The two sums of Adler-32.
 pub struct Sums {
     pub bytes: u64,
     pub sums: u64,
-}
-
-// An answer.
-fn answers(client: SdoClientInfo, length: usize) -> Told {
-    Told {
-        code: 0,
-        client: client,
-        length: length,
-        time: 0,
-    }
-}
-
-// A deadline.
-fn deadline(time: u64) -> Told {
-    Told {
-        code: 254,
-        client: SdoClientInfo::Asnd { node: 0, mac: 0 },
-        length: 0,
-        time: time,
-    }
-}
-
-// A code alone.
-pub fn only(code: u8) -> Told {
-    Told {
-        code: code,
-        client: SdoClientInfo::Asnd { node: 0, mac: 0 },
-        length: 0,
-        time: 0,
-    }
-}
-
-// A refusal, by its number.
-fn refuses(r: Refusal) -> Told {
-    match r {
-        Refusal::Lent => only(1),
-        Refusal::Image => only(2),
-        Refusal::Table => only(3),
-        Refusal::Clock => only(4),
-        Refusal::Short => only(5),
-        Refusal::Long => only(6),
-        Refusal::Full => only(7),
-        Refusal::Sequence => only(8),
-        Refusal::EmptyCommand => only(9),
-    }
-}
-
-// What a request says.
-pub fn of_request(o: Outcome) -> Told {
-    match o {
-        Outcome::Refused(r) => refuses(r),
-        Outcome::Answered(client, length) => answers(client, length),
-    }
-}
-
-// What a tick says.
-pub fn of_tick(o: Ticked) -> Told {
-    match o {
-        Ticked::Refused(r) => refuses(r),
-        Ticked::Nothing => only(255),
-        Ticked::Answered(client, length) => answers(client, length),
-    }
-}
-
-// What a deadline query says.
-pub fn of_query(o: NextAction) -> Told {
-    match o {
-        NextAction::Refused(r) => refuses(r),
-        NextAction::Nothing => only(255),
-        NextAction::At(time) => deadline(time),
-    }
 }
 
 // A byte as a number to sum up.
@@ -141,7 +57,7 @@ pub fn adler(s: &[u8]) -> u32 {
 
 // Whether the answer buffer is as before the call from a place on.
 fn is_untouched(answer: &[u8], from: usize) -> bool {
-    let fresh = [FILL; 1600];
+    let fresh = [script::FILL; ANSWER];
     let past = octets::rest(answer, from);
     check::same(past, octets::part(&fresh, 0, past.len()))
 }
@@ -151,14 +67,14 @@ fn put_answer(client: SdoClientInfo, answer: &[u8], out: &mut [u8]) -> usize
     requires { ⌜ length (now answer) ≤ 1600 ⌝ }
     ensures { λ r. ⌜ r ≤ 1611 ⌝ }
 {
-    octets::copy_at(out, 1, &crate::record::client_bytes(client));
+    octets::copy_at(out, 1, &record::client_bytes(client));
     octets::store_u16(out, 9, (answer.len() % 65536) as u16);
     octets::copy_at(out, 11, answer);
     11 + answer.len()
 }
 
 // What a call says.
-fn put_told(told: Told, answer: &[u8; 1600], out: &mut [u8]) -> usize
+fn put_told(told: Told, answer: &[u8; ANSWER], out: &mut [u8]) -> usize
     ensures { λ r. ⌜ r ≤ 1611 ⌝ }
 {
     let client = told.client;
@@ -182,7 +98,7 @@ fn both_sums(area: &[u8], image: &[u8]) -> u64 {
 pub fn put_entry(
     told: Told,
     row: [Connection; 8],
-    answer: &[u8; 1600],
+    answer: &[u8; ANSWER],
     lent: usize,
     area: &[u8],
     image: &[u8],
@@ -190,8 +106,7 @@ pub fn put_entry(
 ) -> usize
     ensures { λ r. ⌜ r ≤ 1940 ⌝ }
 {
-    let mut table = [0; 320];
-    crate::record::put_table(row, &mut table);
+    let table = record::table_bytes(row);
     let n = put_told(told, answer, out);
     let untouched = is_untouched(octets::part(answer, 0, lent), told.length);
     octets::store_u8(out, n, untouched as u8);

@@ -1,14 +1,14 @@
 -- Safe and ends. Assumes nothing.
-use Rattle.replay.specs.Within.{Within}
 use borrow.Author.Needs.{needs}
+use Rattle.replay.specs.Within.{Fits}
 use Rattle.replay.proofs.played.Statement.{statement}
 use Rattle.replay.proofs.played.Tie as tie
 
 abbrev Inv-loop : tie.InvT-loop
-Inv-loop input₀ area₀ image₀ out₀ p₀ turns₀ input area image out p turns = Within p
+Inv-loop input₀ area₀ image₀ out₀ run₀ turns₀ input area image out run turns = Fits run
 
 abbrev μ-loop : tie.MeasureT-loop
-μ-loop input₀ area₀ image₀ out₀ p₀ turns₀ input area image out p turns = turns
+μ-loop input₀ area₀ image₀ out₀ run₀ turns₀ input area image out run turns = turns
 
 pub played-spec : {M : Type 1} → statement M
 played-spec =

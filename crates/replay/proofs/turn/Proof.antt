@@ -6,11 +6,22 @@ use Rattle.replay.proofs.turn.Tie as tie
 
 passed-requires : tie.Need-passed-requires
 passed-requires c κs =
-    let d = c .before .before .before .before .before in
-    let e = d .before .before .before .before .before .before .before .before in
-    let f = e .before .before .before .before .before .before in
-    let b = f .before .before in
-    (b .pre, omega (arith, e .if2 .left, b .pre .0), omega (arith, f .if1 .left, d .play .ensures .0), d .play .ensures .1)
+    let d = c .before .before .before .before .before .before .before in
+    let e = d .before .before .before .before .before .before in
+    let b = e .before .before .before .before .before .before .before in
+    (b .pre .0, omega (arith, e .if2 .left, e .before .before .unplayed .ensures), d .play .ensures)
+
+add-t14 : tie.Need-add-t14
+add-t14 c =
+    let d = c .before .before in
+    let e = d .before .before .before .before .before .before .before .before .before .before .before .before .before .before .before .before .before .before in
+    omega (arith, d .put .ensures, e .if1 .left)
+
+returns-3 : tie.Need-returns-3
+returns-3 c =
+    let d = c .before .before in
+    let e = d .before .before .before .before .before .before .before .before .before .before .before .before .before .before .before .before .before .before in
+    (c .before .passed .ensures, omega (arith, d .put .ensures, e .if1 .left))
 
 pub turn-spec : {M : Type 1} → statement M
 turn-spec =
@@ -19,16 +30,13 @@ turn-spec =
     (λ c. search needs)
     (λ c κs. search needs)
     (λ c. search needs)
-    (λ c. search needs)
     (λ c κs. search needs)
     (λ c κs. search needs)
     (λ c κs. search needs)
     (λ c. search needs)
     (λ c κs. search needs)
-    (λ c. search needs)
-    (λ c κs. search needs)
-    (λ c. search needs)
     (λ c κs. search needs)
     (λ c κs. search needs)
     passed-requires
-    (λ c. search needs))
+    add-t14
+    returns-3)

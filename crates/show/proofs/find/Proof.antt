@@ -2,8 +2,8 @@
 use borrow.Author.Needs.{needs}
 use Prim.Native.Nat.{_≤_, _-_}
 use lib.ListN.{length}
-use Rattle.card.proofs.show.find.Statement.{statement}
-use Rattle.card.proofs.show.find.Tie as tie
+use Rattle.show.proofs.find.Statement.{statement}
+use Rattle.show.proofs.find.Tie as tie
 
 abbrev Inv-loop : tie.InvT-loop
 Inv-loop text mark i₀ i = i ≤ length text

@@ -2,8 +2,8 @@
 use borrow.Author.Needs.{needs}
 use Prim.Native.Nat.{_≤_, _-_}
 use lib.ListN.{length}
-use Rattle.card.proofs.show.say_bytes.Statement.{statement}
-use Rattle.card.proofs.show.say_bytes.Tie as tie
+use Rattle.show.proofs.say_bytes.Statement.{statement}
+use Rattle.show.proofs.say_bytes.Tie as tie
 
 abbrev Inv-loop : tie.InvT-loop
 Inv-loop bytes i₀ i = i ≤ length bytes

@@ -3,8 +3,8 @@ use borrow.Author.Needs.{needs}
 use Prim.Native.Nat.{_≤_, _-_}
 use mathlib.Core.Path.{_≡_}
 use lib.ListN.{length}
-use Rattle.card.proofs.show.read.Statement.{statement}
-use Rattle.card.proofs.show.read.Tie as tie
+use Rattle.card.proofs.rows.read.Statement.{statement}
+use Rattle.card.proofs.rows.read.Tie as tie
 
 abbrev Inv-loop : tie.InvT-loop
 Inv-loop text bytes₀ n i₀ bytes i = (i ≤ n) × (length bytes ≡ length bytes₀)

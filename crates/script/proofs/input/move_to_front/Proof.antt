@@ -1,8 +1,8 @@
 -- Safe and ends. Assumes nothing.
 use Prim.Native.Nat.{_≤_, _-_}
 use borrow.Author.Needs.{needs}
-use Rattle.replay.proofs.move_to_front.Statement.{statement}
-use Rattle.replay.proofs.move_to_front.Tie as tie
+use Rattle.script.proofs.input.move_to_front.Statement.{statement}
+use Rattle.script.proofs.input.move_to_front.Tie as tie
 
 abbrev Inv-loop : tie.InvT-loop
 Inv-loop input₀ start n i₀ input i = i ≤ n

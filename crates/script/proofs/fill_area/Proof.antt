@@ -1,8 +1,8 @@
 -- Safe and ends. Assumes nothing.
 use Prim.Native.Nat.{_≤_, _-_, _<_}
 use borrow.Author.Needs.{needs}
-use Rattle.replay.proofs.fill_area.Statement.{statement}
-use Rattle.replay.proofs.fill_area.Tie as tie
+use Rattle.script.proofs.fill_area.Statement.{statement}
+use Rattle.script.proofs.fill_area.Tie as tie
 
 abbrev Inv-loop : tie.InvT-loop
 Inv-loop b area₀ first i₀ area i = (i ≤ 65536) × (first < 256)
