@@ -1,0 +1,163 @@
+// Plays a recording from standard input through the server and prints the marked sheet of an exercise: each step in words, and the mark. oracle/REPLAY.md has the recording's format.
+mod exercise;
+mod sheet;
+mod verdict;
+
+use crate::exercise::Words;
+use crate::sheet::Sheet;
+use marking::Exercise;
+use script::ANSWER;
+use script::IMAGE;
+use script::INPUT;
+use script::LENT_AREA;
+use script::Place;
+use script::Played;
+use script::input;
+ghost use Rattle.script.specs.Within.{Within};
+
+// How far a run is, and the sheet so far.
+struct Run {
+    place: Place,
+    sheet: Sheet,
+}
+
+// The sheet after an item that is known.
+fn step(
+    s: Sheet,
+    e: Exercise,
+    item: &[u8],
+    place: Place,
+    done: Played,
+    answer: &[u8; ANSWER],
+) -> Sheet {
+    if !done.known {
+        return s;
+    }
+    if !done.call {
+        return sheet::lend_step(s, item);
+    }
+    let lent = place.lent;
+    let row = lent.table;
+    sheet::call_step(s, e, item, row, done, answer)
+}
+
+// One turn: more is read, or an item is played and shown. An unknown item ends the run.
+fn turn(
+    input: &mut [u8; INPUT],
+    area: &mut [u8; LENT_AREA],
+    image: &mut [u8; IMAGE],
+    e: Exercise,
+    run: Run,
+) -> Run
+    requires { ⌜ Within (run .place) ⌝ }
+    ensures { λ r. ⌜ Within (r .place) ⌝ }
+{
+    let place = run.place;
+    let sheet = run.sheet;
+    let bytes = input::unplayed(input, place);
+    let n = script::length_of(bytes);
+    if bytes.len() < n {
+        return Run {
+            place: input::refilled(input, place),
+            sheet: sheet,
+        };
+    }
+    let lent = place.lent;
+    let item = octets::part(bytes, 0, n);
+    let mut answer = [0; ANSWER];
+    let done = script::play(item, lent, area, image, &mut answer);
+    let sheet = step(sheet, e, item, place, done, &answer);
+    Run {
+        place: script::passed(place, n, done),
+        sheet: sheet,
+    }
+}
+
+// Plays the input as far as it goes. A loop has to end: it counts its turns down from a number that no run uses up.
+fn played(
+    input: &mut [u8; INPUT],
+    area: &mut [u8; LENT_AREA],
+    image: &mut [u8; IMAGE],
+    e: Exercise,
+) -> Run
+    ensures { λ r. ⌜ Within (r .place) ⌝ }
+{
+    let mut run = Run {
+        place: script::begun(),
+        sheet: sheet::blank(),
+    };
+    let mut turns = u64::MAX;
+    while turns > 0 {
+        run = turn(input, area, image, e, run);
+        if !run.place.going {
+            return run;
+        }
+        turns -= 1;
+    }
+    run
+}
+
+// The end of the sheet, with how the recording ends: whole, in the middle of an item, or with one that is unknown.
+fn end(input: &[u8; INPUT], e: Exercise, run: Run)
+    requires { ⌜ Within (run .place) ⌝ }
+{
+    let place = run.place;
+    let sheet = run.sheet;
+    let bytes = input::unplayed(input, place);
+    if bytes.len() == 0 {
+        return verdict::say_end(sheet, e, b"", 0);
+    }
+    if bytes.len() < script::length_of(bytes) {
+        return verdict::say_end(sheet, e, b"is cut short in the item at byte ", place.at);
+    }
+    verdict::say_end(
+        sheet,
+        e,
+        b"cannot be read on: unknown item at byte ",
+        place.at,
+    );
+}
+
+fn say_title(e: Exercise) {
+    show::say(b"MARKED SHEET\nExercise: read ");
+    wording::say_object(e.index, e.sub);
+    show::say(b", to its end: ");
+    show::say_number(e.length as u64);
+    show::say(
+        b" bytes.
+Each step is what a client sent and what the controller answered: in words, decoded, and as bytes in hex.
+
+",
+    );
+}
+
+// The end of the last line. Where it cannot be written, the sheet is not whole.
+fn close() {
+    if !io::write_all(libc::STDOUT_FILENO, b"\n") {
+        io::write_all(libc::STDERR_FILENO, b"mark: the sheet cannot be written\n");
+    }
+}
+
+// Marks the recording on standard input.
+fn mark(e: Exercise) {
+    let mut input = [0u8; INPUT];
+    let mut area = [0u8; LENT_AREA];
+    let mut image = [0u8; IMAGE];
+    say_title(e);
+    let run = played(&mut input, &mut area, &mut image, e);
+    end(&input, e, run);
+    close();
+}
+
+fn main() {
+    let words = exercise::of_arguments();
+    match words {
+        Words::Marks(e) => mark(e),
+        Words::Wrong => {
+            let text = b"usage: mark [INDEX SUB LENGTH] < RECORDING
+INDEX in hex, SUB (at most 255) and LENGTH in decimal; by default 2110 0 4096
+";
+            io::write_all(libc::STDERR_FILENO, text);
+        }
+    }
+}

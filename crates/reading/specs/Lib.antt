@@ -1,0 +1,3 @@
+pub mod Frame
+pub mod Reading
+pub mod Rows
