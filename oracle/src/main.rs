@@ -1,32 +1,12 @@
-//! The Rust of powerlink-rs as an oracle: its files are taken in unchanged, by
-//! path, and run on scripts of items. README.md says how.
-
-extern crate alloc;
-
-mod codec;
-mod frame;
-mod hal;
-mod log;
-mod od;
-mod replay;
-mod rng;
-mod sdo;
-mod stream;
-mod types;
-
-#[cfg(not(feature = "sdo-udp"))]
-compile_error!("the scripts have clients over UDP: build with the feature sdo-udp");
-
-// Stands in for the repository's lib.rs, which is not at hand: the files taken
-// in name the error by this path too.
-pub use hal::PowerlinkError;
+//! The oracle's subcommands. README.md has them.
 
 use std::fs::File;
 use std::io::{self, BufReader, BufWriter, Write};
 use std::process::ExitCode;
 
-use replay::Trouble;
-use stream::Fault;
+use oracle::codec;
+use oracle::replay::{self, Trouble};
+use oracle::stream::Fault;
 
 const USAGE: &str = "usage: oracle codec-all | codec-items SEED COUNT | codec-sample | \
                      codec < ITEMS | short-buffer | \

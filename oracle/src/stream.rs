@@ -114,7 +114,7 @@ impl<R: Read> Fields<R> {
 }
 
 /// Says on standard error how far a run is, at most once in five seconds.
-pub struct Progress {
+pub(crate) struct Progress {
     count: u64,
     last: Instant,
 }

@@ -26,15 +26,16 @@ impl Entry {
     /// Entry number `n`; the contents must hold it.
     fn read(image: &[u8], n: usize) -> Self {
         let at = COUNT + ENTRY * n;
-        let u16_at = |i: usize| u16::from_le_bytes([image[at + i], image[at + i + 1]]);
+        let bytes = image[at..].first_chunk().expect("the contents hold it");
+        let [i0, i1, sub_index, flags, b0, b1, b2, b3, c0, c1, l0, l1]: [u8; ENTRY] = *bytes;
         Self {
             at,
-            index: u16_at(0),
-            sub_index: image[at + 2],
-            flags: image[at + 3],
-            body: u16_at(4) as usize | (u16_at(6) as usize) << 16,
-            capacity: u16_at(8) as usize,
-            length: u16_at(10) as usize,
+            index: u16::from_le_bytes([i0, i1]),
+            sub_index,
+            flags,
+            body: u32::from_le_bytes([b0, b1, b2, b3]) as usize,
+            capacity: u16::from_le_bytes([c0, c1]) as usize,
+            length: u16::from_le_bytes([l0, l1]) as usize,
         }
     }
 
@@ -80,7 +81,7 @@ pub fn is_sound(image: &[u8]) -> bool {
         return false;
     }
     let mut before = None;
-    for entry in entries(image) {
+    for entry in (0..count(image)).map(|n| Entry::read(image, n)) {
         let fits = match entry.is_variable() {
             true => entry.length <= entry.capacity,
             false => entry.length == entry.capacity,

@@ -43,7 +43,14 @@ pub struct Bench {
     answer: Vec<u8>,
 }
 
+impl Default for Bench {
+    fn default() -> Self {
+        Self::new()
+    }
+}
+
 impl Bench {
+    /// As at the start of a script.
     pub fn new() -> Self {
         let mut bench = Self {
             table: table::empty(),

@@ -13,12 +13,14 @@ mod make;
 mod record;
 mod run;
 mod state;
-mod table;
+pub mod table;
 mod transcript;
 mod words;
 
+pub use bench::{ANSWER, Bench, MAX_CLOCK, Outcome, REQUEST};
 pub use coverage::coverage;
 pub use differ::{Trouble, differ};
+pub use item::{Item, Lengths};
 pub use make::{Profile, sample, script};
-pub use record::Transfer;
-pub use run::run;
+pub use record::{Record, State, Transfer, read_client};
+pub use run::{run, write_call};

@@ -21,7 +21,7 @@ pub fn run(script: impl Read, out: &mut impl Write) -> Result<(), (u64, Fault)> 
         };
         if let Some(outcome) = bench.apply(&item) {
             transcript.clear();
-            write(&bench, outcome, &mut transcript);
+            write_call(&bench, outcome, &mut transcript);
             out.write_all(&transcript)
                 .map_err(|error| (at, Fault::Io(error)))?;
         }
@@ -30,7 +30,7 @@ pub fn run(script: impl Read, out: &mut impl Write) -> Result<(), (u64, Fault)> 
 }
 
 /// What the transcript has of one call.
-fn write(bench: &Bench, outcome: Outcome, out: &mut Vec<u8>) {
+pub fn write_call(bench: &Bench, outcome: Outcome, out: &mut Vec<u8>) {
     let answered = match outcome {
         Outcome::Answer { client, length } => {
             out.push(0);
