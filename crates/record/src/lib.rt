@@ -36,7 +36,7 @@ pub fn is_client(s: &[u8]) -> bool
 }
 
 // The client in its bytes.
-fn client_in(s: &[u8; 8]) -> SdoClientInfo
+pub fn client_in(s: &[u8; 8]) -> SdoClientInfo
     ensures { λ r. ⌜ r ≡ clientOf (now (s .entry)) ⌝ }
 {
     if octets::byte_at(s, 0) == 0 {
@@ -128,8 +128,8 @@ fn state_of(s: &[u8; 40]) -> SdoServerState
     }
 }
 
-// The record in these bytes.
-fn record_of(s: &[u8; 40]) -> Connection
+// The record in its bytes.
+pub fn record_of(s: &[u8; 40]) -> Connection
     ensures { λ r. ⌜ r ≡ recordOf (now (s .entry)) ⌝ }
 {
     Connection {
@@ -281,6 +281,15 @@ fn lay_record(out: &mut [u8], c: Connection)
     octets::copy_at(out, 9, &[c.area, c.send, c.receive, state_number(state)]);
     octets::copy_at(out, 13, &state_bytes(state));
     octets::store_u8(out, 39, 0);
+}
+
+// A record's bytes.
+pub fn record_bytes(c: Connection) -> [u8; 40]
+    ensures { λ r. ⌜ r ≡ recordBytes c ⌝ }
+{
+    let mut b = [0; 40];
+    lay_record(&mut b, c);
+    b
 }
 
 // A record's bytes go to a place.

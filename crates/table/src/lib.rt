@@ -106,7 +106,7 @@ fn is_awaited(t: SdoTransferState) -> bool
 }
 
 // An upload has total 1,453 to 8,192 and offset a positive multiple of 1,452 below total.
-fn sound_upload(t: SdoTransferState) -> bool
+pub fn sound_upload(t: SdoTransferState) -> bool
     ensures { λ r. ⌜ r ≡ soundUpload t ⌝ }
 {
     let total = t.total;
@@ -127,7 +127,7 @@ fn larger(a: u32, b: u32) -> u32
 }
 
 // A download has total 1 to 8,192, offset at most the larger of total and 1,480, and a deadline.
-fn sound_download(t: SdoTransferState) -> bool
+pub fn sound_download(t: SdoTransferState) -> bool
     ensures { λ r. ⌜ r ≡ soundDownload t ⌝ }
 {
     let d = t.deadline;
@@ -169,7 +169,7 @@ fn transfer_deadline(s: SdoServerState) -> Deadline
 }
 
 // Whether a deadline is there and reached.
-fn is_past(d: Deadline, clock: u64) -> bool
+pub fn is_past(d: Deadline, clock: u64) -> bool
     ensures { λ r. ⌜ r ≡ isPast clock d ⌝ }
 {
     match d {
@@ -397,7 +397,7 @@ fn seat_place(t: [Connection; 8], client: SdoClientInfo) -> usize
 }
 
 // A joining client's record.
-fn joining(client: SdoClientInfo, area: u8) -> Connection
+pub fn joining(client: SdoClientInfo, area: u8) -> Connection
     ensures { λ r. ⌜ r ≡ joining client area ⌝ }
 {
     Connection {
