@@ -32,7 +32,7 @@ big-agrees zero xs ys h = refl
 big-agrees (suc n) xs ys h = rw (big-agrees n xs ys (agree-less n (suc n) xs ys (omega arith) h), h n (omega arith))
 
 -- a number by its first byte
-number-more : (n : ℕ) (xs : List ℕ) → le (take (suc n) xs) ≡ byteAt 0 xs + 256 * le (take n (drop 1 xs))
+pub number-more : (n : ℕ) (xs : List ℕ) → le (take (suc n) xs) ≡ byteAt 0 xs + 256 * le (take n (drop 1 xs))
 unfolding le
 number-more n [] = rw (take-nil n)
 number-more n (x ∷ xs) = refl
@@ -145,6 +145,10 @@ record-test at s =
       byte-in at 25 s (lit< tt),
       byte-in at 38 s (lit< tt),
     )
+
+pub and-true : (b : Bool) → b ≡ (b && true)
+and-true false = refl
+and-true true = refl
 
 -- eight tests, one behind the other
 nested : (a b c d e f g h : Bool) → (a && b && c && d && e && f && g && h) ≡ (a && (b && (c && (d && (e && (f && (g && (h && true))))))))

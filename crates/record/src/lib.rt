@@ -184,9 +184,12 @@ fn is_record(s: &[u8], at: usize) -> bool
     requires { ⌜ at + 40 ≤ length (now s) ⌝ }
     ensures { λ r. ⌜ r ≡ isRecord (take 40 (drop at (now (s .entry)))) ⌝ }
 {
+    let head = (s[at] < 2) & (s[at + 1] < 2);
     let state = s[at + 12];
-    let flags = (s[at + 25] < 2) & (s[at + 38] < 2);
-    (s[at] < 2) & (s[at + 1] < 2) & ((state < 3) | (state < 5) & flags)
+    if state < 3 {
+        return head;
+    }
+    head & ((state < 5) & ((s[at + 25] < 2) & (s[at + 38] < 2)))
 }
 
 // Whether these bytes are those of eight records in their limits.

@@ -1,0 +1,43 @@
+-- A fold over the records.
+use Rattle.protocol.specs.ConnectionTable.{fresh, earlier, deadlineOf, earliest}
+use Rattle.record.specs.Format.{tableOf}
+use Rattle.packed.proofs.Bytes.{eight, record-there}
+use Rattle.picks.proofs.Fold.{fold-more, fold-end}
+use Rattle.picks.specs.Pick.{fold}
+use lib.ListN.{length, drop}
+use mathlib.Core.Path.{_≡_}
+use Prim.Native.Nat.{_-_, _≤_}
+use borrow.Author.Needs.{needs}
+use native.Mathlib.Omega.{arith}
+use Rattle.packed.proofs.next_deadline.Statement.{statement}
+use Rattle.packed.proofs.next_deadline.Tie as tie
+
+abbrev Inv-loop : tie.InvT-loop
+Inv-loop t d₀ i₀ d i = (i ≤ 8) × (earliest (tableOf t) ≡ fold (λ e r. earlier e (deadlineOf r)) d (drop i (tableOf t)))
+
+abbrev μ-loop : tie.MeasureT-loop
+μ-loop t d₀ i₀ d i = 8 - i
+
+loop-holds : tie.Need-loop-holds Inv-loop μ-loop
+unfolding earliest
+loop-holds c = search needs
+
+loop-again : tie.Need-loop-again Inv-loop μ-loop
+loop-again c = let l = c .before .before .before .loop in let a = c .before .before .before .before .args in let s = a .t .now in (search needs, rw (c .earlier .ensures, c .before .deadline-at .ensures, ← record-there s (fresh 0) (l .i) (omega arith)) (fold-more (λ e r. earlier e (deadlineOf r)) (tableOf s) _ (l .d) (l .i) (l .inv .1) (fresh 0) (omega (arith, eight s))))
+
+returns : tie.Need-returns Inv-loop μ-loop
+returns c = let l = c .before .loop in let a = c .before .before .args in let s = a .t .now in fold-end (λ e r. earlier e (deadlineOf r)) (tableOf s) _ (l .d) (l .i) (l .inv .1) (omega (arith, eight s))
+
+pub next-deadline-spec : {M : Type 1} → statement M
+next-deadline-spec =
+    tie.close
+    (tie.spec
+    Inv-loop
+    μ-loop
+    loop-holds
+    (λ c κs. search needs)
+    (λ c κs. search needs)
+    (λ c. search needs)
+    (λ c. search needs)
+    loop-again
+    returns)
