@@ -1,7 +1,9 @@
 -- What an answered request and a tick that answers leave, from the row and the record before it is stored; a deadline as an answer.
-use Prim.Native.Nat.{ℕ}
+use Prim.Native.Nat.{ℕ, _+_, _*_}
+use mathlib.Core.Bool.{Bool}
 use mathlib.Core.List.{List}
 use lib.ListN.{length, set}
+use lib.Dec.{leb}
 use Rattle.picks.specs.Pick.{pick}
 use Rattle.octets.specs.Octets.{splice}
 use Rattle.protocol.specs.declared.SdoClientInfo.{SdoClientInfo}
@@ -10,12 +12,21 @@ use Rattle.protocol.specs.declared.Deadline.{Deadline}
 use Rattle.protocol.specs.declared.Deadline.the-variants as D
 use Rattle.protocol.specs.declared.NextAction.{NextAction}
 use Rattle.protocol.specs.declared.NextAction.the-variants as A
+use Rattle.protocol.specs.Constants.{SHARE}
 use Rattle.protocol.specs.Coding.{Answer, refused, value, refusalNumber}
-use Rattle.protocol.specs.ConnectionRecord.{Reply}
-use Rattle.protocol.specs.ConnectionTable.{holds, update, release, isClosed}
+use Rattle.protocol.specs.ConnectionRecord.{Reply, Served, serve}
+use Rattle.protocol.specs.ConnectionTable.{holds, update, release, isClosed, shareOf}
 use Rattle.protocol.specs.Calls.{Verdict, refuse, accept, verdict, To, Called, frame}
 use Rattle.protocol.specs.Tick.{Told, somebody, tickTests, tickAt}
 use Rattle.table.specs.Row.{isGone}
+
+-- a record served on its own part of an area, which may not hold it
+abbrev pub holdsShare : Connection → List ℕ → Bool
+holdsShare c area = leb (SHARE * c .area + SHARE) (length area)
+
+abbrev pub servedOn : Connection → List ℕ → List ℕ → ℕ → List ℕ → Served
+servedOn c area image clock request =
+    pick (holdsShare c area) (serve c (shareOf area (c .area)) image clock request) (record { connection = c; share = shareOf area (c .area); image = image; said = refused 1 })
 
 -- the row with the record after the call, and without it where that is Closed
 abbrev pub settledRow : SdoClientInfo → List Connection → Connection → List Connection

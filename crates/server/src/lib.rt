@@ -18,6 +18,7 @@ ghost use mathlib.Core.Bool.{true, not, _||_};
 ghost use Prim.Native.Nat.{_+_, _*_, _≤_};
 ghost use lib.ListN.{length, set};
 ghost use lib.Dec.{eqb, ltb};
+ghost use Rattle.picks.specs.Pick.{pick};
 ghost use Rattle.protocol.specs.Constants.{SHARE, AREA, ANSWER-MIN};
 ghost use Rattle.protocol.specs.Coding.{toldWritten};
 ghost use Rattle.protocol.specs.ConnectionRecord.{toldHandled, toldReply, serve};
@@ -25,8 +26,8 @@ ghost use Rattle.protocol.specs.ConnectionTable.{soundTable, update, shareOf, w
 ghost use Rattle.protocol.specs.Calls.{toldChecked, verdict, accept, addressed, answerWritten, answerLeft};
 ghost use Rattle.protocol.specs.Request.{toldOutcome, toldRequested, requestTests, accepted, requestOf};
 ghost use Rattle.protocol.specs.Tick.{toldTicked, toldTickedRow, tickTests, tickAt, tickOf};
-ghost use Rattle.server.specs.Tests.{frameTests};
-ghost use Rattle.server.specs.Left.{settledRow, answeredCall, toldTo, tickedCall, nextAction, tickAtOf};
+ghost use Rattle.server.specs.Tests.{lentTests, frameTests};
+ghost use Rattle.server.specs.Left.{holdsShare, servedOn, settledRow, answeredCall, toldTo, tickedCall, nextAction, tickAtOf};
 ghost use Rattle.protocol.specs.DeadlineQuery.{toldNextAction, queryOf};
 
 // Whether the answer buffer or the area has a length that no call takes.
@@ -36,9 +37,9 @@ fn lent_wrong(area: &[u8], answer: &[u8]) -> bool
     (answer.len() < 1468) | !(area.len() == 65536)
 }
 
-// The tests of what is lent and of the clock: refusals 1 to 4, in order.
-fn check_lent(t: [Connection; 8], area: &[u8], image: &[u8], answer: &[u8], clock: u64) -> Checked
-    ensures { λ r. ⌜ toldChecked r ≡ verdict (tickTests clock (now (image .entry)) (now (answer .entry)) t (now (area .entry))) ⌝ }
+// The tests of what is lent and of the clock, the table's soundness told: refusals 1 to 4, in order.
+pub fn check_lent(sound: bool, area: &[u8], image: &[u8], answer: &[u8], clock: u64) -> Checked
+    ensures { λ r. ⌜ toldChecked r ≡ verdict (lentTests sound clock (now (image .entry)) (now (answer .entry)) (now (area .entry))) ⌝ }
 {
     if lent_wrong(area, answer) {
         return Checked::Refused(Refusal::Lent);
@@ -46,7 +47,7 @@ fn check_lent(t: [Connection; 8], area: &[u8], image: &[u8], answer: &[u8], cloc
     if !dictionary::sound_image(image) {
         return Checked::Refused(Refusal::Image);
     }
-    if !table::is_sound(t) {
+    if !sound {
         return Checked::Refused(Refusal::Table);
     }
     if 0x7FFFFFFFFFFFFFFF < clock {
@@ -55,9 +56,9 @@ fn check_lent(t: [Connection; 8], area: &[u8], image: &[u8], answer: &[u8], cloc
     Checked::Accepted
 }
 
-// The tests of the request itself: refusals 5 to 7, in order.
-fn check_frame(t: [Connection; 8], client: SdoClientInfo, n: usize) -> Checked
-    ensures { λ r. ⌜ toldChecked r ≡ verdict (frameTests client n t) ⌝ }
+// The tests of a request of n bytes, told whether the table is full for its client: refusals 5 to 7, in order.
+pub fn check_frame(n: usize, full: bool) -> Checked
+    ensures { λ r. ⌜ toldChecked r ≡ verdict (frameTests n full) ⌝ }
 {
     if n < 4 {
         return Checked::Refused(Refusal::Short);
@@ -65,7 +66,7 @@ fn check_frame(t: [Connection; 8], client: SdoClientInfo, n: usize) -> Checked
     if 1500 < n {
         return Checked::Refused(Refusal::Long);
     }
-    if table::is_full(t, client) {
+    if full {
         return Checked::Refused(Refusal::Full);
     }
     Checked::Accepted
@@ -83,10 +84,11 @@ fn check_request(
 ) -> Checked
     ensures { λ r. ⌜ toldChecked r ≡ verdict (requestTests client clock (now (request .entry)) (now (image .entry)) (now (answer .entry)) t (now (area .entry))) ⌝ }
 {
-    let lent = check_lent(t, area, image, answer, clock);
+    let sound = table::is_sound(t);
+    let lent = check_lent(sound, area, image, answer, clock);
     match lent {
         Checked::Refused(x) => Checked::Refused(x),
-        Checked::Accepted => check_frame(t, client, request.len()),
+        Checked::Accepted => check_frame(request.len(), table::is_full(t, client)),
     }
 }
 
@@ -106,8 +108,24 @@ fn serve_share(
     sequence_handler::handle_request(c, &mut area[from..to], image, clock, request)
 }
 
+// The same for an area of any length: one that does not hold the record's part is refused with 1.
+pub fn serve_record(
+    c: Connection,
+    area: &mut [u8],
+    image: &mut [u8],
+    clock: u64,
+    request: &[u8],
+) -> Handled
+    ensures { λ r. ⌜ toldHandled r (shareOf (now (area .exit)) (c .area)) (now (image .exit)) ≡ servedOn c (now (area .entry)) (now (image .entry)) clock (now (request .entry)) ⌝ ∗ ⌜ now (area .exit) ≡ pick (holdsShare c (now (area .entry))) (withShare (now (area .entry)) (c .area) (shareOf (now (area .exit)) (c .area))) (now (area .entry)) ⌝ }
+{
+    if area.len() < 8192 * (c.area as usize) + 8192 {
+        return Handled::Refused(c, Refusal::Lent);
+    }
+    serve_share(c, area, image, clock, request)
+}
+
 // An answer's bytes in the answer buffer; a piece stands in the record's own part of the area.
-fn put_answer<'a>(
+pub fn put_answer<'a>(
     r: SdoResponseData,
     area: &'a [u8],
     number: u8,
@@ -121,7 +139,7 @@ fn put_answer<'a>(
 }
 
 // What is returned for an answer that was written.
-fn addressed(client: SdoClientInfo, w: Written) -> Outcome
+pub fn addressed(client: SdoClientInfo, w: Written) -> Outcome
     ensures { λ r. ⌜ toldOutcome r ≡ addressed client (toldWritten w) ⌝ }
 {
     match w {
@@ -282,7 +300,8 @@ pub fn tick_at<'a>(
 ) -> TickedRow
     ensures { λ res. ⌜ toldTickedRow res (now (answer .exit)) (now (area .entry)) (now (image .entry)) ≡ tickAtOf place clock (now (image .entry)) (now (answer .entry)) t (now (area .entry)) ⌝ }
 {
-    let checked = check_lent(t, area, image, answer, clock);
+    let sound = table::is_sound(t);
+    let checked = check_lent(sound, area, image, answer, clock);
     match checked {
         Checked::Refused(x) => TickedRow {
             outcome: Ticked::Refused(x),
