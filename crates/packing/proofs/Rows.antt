@@ -1,12 +1,10 @@
 -- Where the records of a table stand among its bytes, and what stores of whole records make of them.
 use Prim.Native.Nat.{ℕ, zero, suc, _+_, _*_, _-_, _<_, _≤_}
 use native.Mathlib.Omega.{arith}
-use native.Mathlib.Nat.{add-zero}
-use native.Mathlib.Numerals.{add-one}
 use mathlib.Core.Path.{_≡_, refl, sym, ap, _∙_}
-use mathlib.Core.List.{List, [], _∷_, _++_, append-assoc, append-nil, map}
+use mathlib.Core.List.{List, [], _∷_, _++_, append-assoc, map}
 use lib.ListN.{length, getD, take, drop, set, length-drop, take-append-drop}
-use lib.Seq.{paste, take-at, drop-at, take-all, length-take-le, set-split, set-out, length-paste}
+use lib.Seq.{paste, take-at, drop-at, take-all, length-take-le, set-split, length-paste}
 use Rattle.octets.specs.Octets.{splice}
 use Rattle.octets.proofs.Splice.{splice-fits}
 use Rattle.picks.proofs.Shift.{shift-down}

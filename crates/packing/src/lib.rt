@@ -39,7 +39,11 @@ pub fn insert(t: &mut [u8; 320], at: usize, n: usize, c: Connection)
         return;
     }
     let old = *t;
-    octets::copy_at(t, 40 * at + 40, octets::part(&old, 40 * at, 40 * n - 40 * at));
+    octets::copy_at(
+        t,
+        40 * at + 40,
+        octets::part(&old, 40 * at, 40 * n - 40 * at),
+    );
     octets::copy_at(t, 40 * at, &record::record_bytes(c));
 }
 

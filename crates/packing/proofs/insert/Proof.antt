@@ -1,100 +1,49 @@
+-- No place between, a place past the end, and the records moved up.
+use mathlib.Core.Path.{refl, ap, _∙_}
+use borrow.Author.Tests.{le-leb, lt-leb, lt-ltb, le-ltb}
+use Rattle.picks.proofs.Picks.{pick-t, pick-f}
+use Rattle.picks.proofs.Keep.{both}
+use Rattle.record.specs.Format.{tableBytes, tableOf}
+use Rattle.record.proofs.Ranges.{length-tableOf}
+use Rattle.packing.proofs.Rows.{inserted}
 use borrow.Author.Needs.{needs}
 use native.Mathlib.Omega.{arith}
 use Rattle.packing.proofs.insert.Statement.{statement}
 use Rattle.packing.proofs.insert.Tie as tie
-use Rattle.packing.proofs.insert.Reads as reads
-use Rattle.packing.proofs.insert.Lts as lts
-use Rattle.octets.proofs.copy_at.Reads as copy-at-reads
-use Rattle.octets.proofs.part.Reads as part-reads
-use Rattle.packing.proofs.tidy.Reads as tidy-reads
-use Rattle.record.proofs.record_bytes.Reads as record-bytes-reads
 
--- src/lib.rt:34:5
-tidy-requires : tie.Need-tidy-requires
-tidy-requires c κs = search needs
-
--- src/lib.rt:36:9
 returns : tie.Need-returns
-returns c = ?
+returns c = c .before .tidy .ensures ∙ ap tableBytes (pick-f _ _ _ _ (rw (lt-leb _ _ (c .if1 .taken))) refl)
 
--- src/lib.rt:39:9
 returns-2 : tie.Need-returns-2
-returns-2 c = ?
+returns-2 c = c .before .before .tidy .ensures ∙ ap tableBytes (pick-f _ _ _ _ (rw (le-leb _ _ (c .before .if1 .left), le-ltb _ _ (c .if2 .taken))) refl)
 
--- src/lib.rt:42:24
-mul-copy-at : tie.Need-mul-copy-at
-mul-copy-at c = search needs
-
--- src/lib.rt:42:24
-add-copy-at : tie.Need-add-copy-at
-add-copy-at c = search needs
-
--- src/lib.rt:42:51
-slice-aggregate-part : tie.Need-slice-aggregate-part
-slice-aggregate-part c = search needs
-
--- src/lib.rt:42:57
-mul-part : tie.Need-mul-part
-mul-part c = search needs
-
--- src/lib.rt:42:66
-mul-part-2 : tie.Need-mul-part-2
-mul-part-2 c = search needs
-
--- src/lib.rt:42:75
-mul-part-3 : tie.Need-mul-part-3
-mul-part-3 c = search needs
-
--- src/lib.rt:42:66
-sub-part : tie.Need-sub-part
-sub-part c = search needs
-
--- src/lib.rt:42:38
-part-requires : tie.Need-part-requires
-part-requires c κs = search needs
-
--- src/lib.rt:42:5
-copy-at-requires : tie.Need-copy-at-requires
-copy-at-requires c κs = search needs
-
--- src/lib.rt:43:24
-mul-copy-at-2 : tie.Need-mul-copy-at-2
-mul-copy-at-2 c = search needs
-
--- src/lib.rt:43:34
-record-bytes-requires : tie.Need-record-bytes-requires
-record-bytes-requires c κs = search needs
-
--- src/lib.rt:43:33
-slice-aggregate-copy-at : tie.Need-slice-aggregate-copy-at
-slice-aggregate-copy-at c = search needs
-
--- src/lib.rt:43:5
-copy-at-requires-2 : tie.Need-copy-at-requires-2
-copy-at-requires-2 c κs = search needs
-
--- src/lib.rt:31:1
 returns-3 : tie.Need-returns-3
-returns-3 c = ?
+returns-3 c =
+    let a = c .before .before .before .before .before .before .before .before .before .before .before .before .before .args in
+    let t = tableOf (a .t .now) in
+    let h = c .before .before .before .before .before .before .before .before .before .before .if1 .left in
+    let l = c .before .before .before .before .before .before .before .before .before .if2 .left in
+    rw (c .copy-at2 .ensures, c .before .before .record-bytes .ensures, c .before .before .before .before .copy-at .ensures, c .before .before .before .before .before .part .ensures, c .before .before .before .before .before .before .before .before .before .before .before .tidy .ensures)
+    (inserted (a .at) (a .n) (a .c) t h (omega (arith, length-tableOf (a .t .now), l)) ∙ ap tableBytes (pick-t _ _ _ _ (both (le-leb _ _ h) (lt-ltb _ _ l)) refl))
 
 pub insert-spec : {M : Type 1} → statement M
 insert-spec =
     tie.close
     (tie.spec
-    tidy-requires
+    (λ c κs. search needs)
     returns
     returns-2
-    mul-copy-at
-    add-copy-at
-    slice-aggregate-part
-    mul-part
-    mul-part-2
-    mul-part-3
-    sub-part
-    part-requires
-    copy-at-requires
-    mul-copy-at-2
-    record-bytes-requires
-    slice-aggregate-copy-at
-    copy-at-requires-2
+    (λ c. search needs)
+    (λ c. search needs)
+    (λ c. search needs)
+    (λ c. search needs)
+    (λ c. search needs)
+    (λ c. search needs)
+    (λ c. search needs)
+    (λ c κs. search needs)
+    (λ c κs. search needs)
+    (λ c. search needs)
+    (λ c κs. search needs)
+    (λ c. search needs)
+    (λ c κs. search needs)
     returns-3)

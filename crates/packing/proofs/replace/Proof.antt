@@ -1,49 +1,32 @@
+-- A record past the end, and one in its place.
+use mathlib.Core.Path.{sym, ap, _∙_}
+use lib.Seq.{set-out}
+use Rattle.record.specs.Format.{tableBytes, tableOf}
+use Rattle.record.proofs.Ranges.{length-tableOf}
+use Rattle.packing.proofs.Rows.{placed}
 use borrow.Author.Needs.{needs}
 use native.Mathlib.Omega.{arith}
 use Rattle.packing.proofs.replace.Statement.{statement}
 use Rattle.packing.proofs.replace.Tie as tie
-use Rattle.packing.proofs.replace.Reads as reads
-use Rattle.packing.proofs.replace.Lts as lts
-use Rattle.octets.proofs.copy_at.Reads as copy-at-reads
-use Rattle.packing.proofs.tidy.Reads as tidy-reads
-use Rattle.record.proofs.record_bytes.Reads as record-bytes-reads
 
--- src/lib.rt:23:5
-tidy-requires : tie.Need-tidy-requires
-tidy-requires c κs = search needs
-
--- src/lib.rt:25:9
 returns : tie.Need-returns
-returns c = ?
+returns c =
+    let a = c .before .before .before .args in
+    c .before .tidy .ensures ∙ ap tableBytes (sym (set-out (tableOf (a .t .now)) (a .i) (a .c) (omega (arith, length-tableOf (a .t .now), c .if1 .taken))))
 
--- src/lib.rt:27:24
-mul-copy-at : tie.Need-mul-copy-at
-mul-copy-at c = search needs
-
--- src/lib.rt:27:33
-record-bytes-requires : tie.Need-record-bytes-requires
-record-bytes-requires c κs = search needs
-
--- src/lib.rt:27:32
-slice-aggregate-copy-at : tie.Need-slice-aggregate-copy-at
-slice-aggregate-copy-at c = search needs
-
--- src/lib.rt:27:5
-copy-at-requires : tie.Need-copy-at-requires
-copy-at-requires c κs = search needs
-
--- src/lib.rt:20:1
 returns-2 : tie.Need-returns-2
-returns-2 c = ?
+returns-2 c =
+    let a = c .before .before .before .before .before .before .before .args in
+    rw (c .copy-at .ensures, c .before .before .record-bytes .ensures, c .before .before .before .before .before .tidy .ensures) (placed (a .i) (a .c) (tableOf (a .t .now)) (omega (arith, length-tableOf (a .t .now), c .before .before .before .before .if1 .left)))
 
 pub replace-spec : {M : Type 1} → statement M
 replace-spec =
     tie.close
     (tie.spec
-    tidy-requires
+    (λ c κs. search needs)
     returns
-    mul-copy-at
-    record-bytes-requires
-    slice-aggregate-copy-at
-    copy-at-requires
+    (λ c. search needs)
+    (λ c κs. search needs)
+    (λ c. search needs)
+    (λ c κs. search needs)
     returns-2)

@@ -1,23 +1,18 @@
+-- The bytes of the row that is read.
+use mathlib.Core.Path.{_≡_, sym, ap, _∙_}
+use lib.ListN.{length}
+use borrow.Author.Tests.{eq-eqb}
+use Rattle.picks.proofs.Picks.{pick-t}
+use Rattle.record.specs.Format.{tableBytes}
 use borrow.Author.Needs.{needs}
-use native.Mathlib.Omega.{arith}
 use Rattle.packing.proofs.tidy.Statement.{statement}
 use Rattle.packing.proofs.tidy.Tie as tie
-use Rattle.packing.proofs.tidy.Reads as reads
-use Rattle.packing.proofs.tidy.Lts as lts
-use Rattle.record.proofs.put_table.Reads as put-table-reads
-use Rattle.record.proofs.table_of.Reads as table-of-reads
 
--- src/lib.rt:15:9
-table-of-requires : tie.Need-table-of-requires
-table-of-requires c κs = search needs
-
--- src/lib.rt:16:5
-put-table-requires : tie.Need-put-table-requires
-put-table-requires c κs = search needs
-
--- src/lib.rt:12:1
 returns : tie.Need-returns
-returns c = ?
+returns c =
+    let s = c .before .before .before .before .before .args .t .now in
+    let l : length s ≡ 320 = search needs in
+    c .put-table .ensures ∙ sym (pick-t _ _ _ _ (eq-eqb (length s) 320 l) (ap tableBytes (sym (c .before .before .table-of .ensures))))
 
 pub tidy-spec : {M : Type 1} → statement M
-tidy-spec = tie.close (tie.spec table-of-requires put-table-requires returns)
+tidy-spec = tie.close (tie.spec (λ c κs. search needs) (λ c κs. search needs) returns)
