@@ -1,17 +1,97 @@
 // A table's 320 bytes changed where they are, by whole records: what nobody looks at becomes 0.
 use protocol::Connection;
 ghost use mathlib.Core.Path.{_≡_};
-ghost use mathlib.Core.Bool.{_&&_};
-ghost use lib.ListN.{set};
+ghost use mathlib.Core.Bool.{true, _&&_};
+ghost use Prim.Native.Nat.{_+_, _≤_};
+ghost use lib.ListN.{length, set};
 ghost use lib.Dec.{ltb, leb};
 ghost use Rattle.picks.specs.Pick.{pick};
+ghost use Rattle.octets.specs.Octets.{AllBytes};
 ghost use Rattle.table.specs.Row.{putIn, droppedAt};
 ghost use Rattle.record.specs.Format.{tableBytes, tableOf};
+ghost use Rattle.packing.specs.Plain.{rowAt, SameClient, NoTransfer, SameTransfer, SameState, SameRecord};
+
+// Whether the client of the record at a place has nothing but 0 where nobody looks.
+fn plain_client(s: &[u8], at: usize) -> bool
+    requires { ⌜ (at + 40 ≤ length (now s)) × AllBytes (now s) ⌝ }
+    ensures { λ r. ⌜ (r ≡ true → SameClient (rowAt at (now (s .entry)))) ⌝ }
+{
+    let kind = s[at + 1];
+    (kind == 0) | (kind == 1) & (s[at + 8] == 0)
+}
+
+// Whether the bytes of a transfer are 0.
+fn no_transfer(s: &[u8], at: usize) -> bool
+    requires { ⌜ (at + 40 ≤ length (now s)) × AllBytes (now s) ⌝ }
+    ensures { λ r. ⌜ (r ≡ true → NoTransfer (rowAt at (now (s .entry)))) ⌝ }
+{
+    (octets::u64_at(s, at + 13) == 0)
+        & (octets::u64_at(s, at + 21) == 0)
+        & (octets::u64_at(s, at + 29) == 0)
+        & (octets::u16_at(s, at + 37) == 0)
+}
+
+// Whether a transfer's flags are 0 or 1, and its deadline 0 where it has none.
+fn plain_transfer(s: &[u8], at: usize) -> bool
+    requires { ⌜ (at + 40 ≤ length (now s)) × AllBytes (now s) ⌝ }
+    ensures { λ r. ⌜ (r ≡ true → SameTransfer (rowAt at (now (s .entry)))) ⌝ }
+{
+    let timed = s[at + 25];
+    (timed < 2) & (s[at + 38] < 2) & ((timed == 1) | (octets::u64_at(s, at + 26) == 0))
+}
+
+// Whether the bytes from the state on are those written of it.
+fn plain_state(s: &[u8], at: usize) -> bool
+    requires { ⌜ (at + 40 ≤ length (now s)) × AllBytes (now s) ⌝ }
+    ensures { λ r. ⌜ (r ≡ true → SameState (rowAt at (now (s .entry)))) ⌝ }
+{
+    let state = s[at + 12];
+    if state < 3 {
+        return no_transfer(s, at);
+    }
+    if state < 5 {
+        return plain_transfer(s, at);
+    }
+    false
+}
+
+// Whether the bytes of the record at a place are those written of it.
+fn plain_record(s: &[u8], at: usize) -> bool
+    requires { ⌜ (at + 40 ≤ length (now s)) × AllBytes (now s) ⌝ }
+    ensures { λ r. ⌜ (r ≡ true → SameRecord (rowAt at (now (s .entry)))) ⌝ }
+{
+    let ends = (s[at] < 2) & (s[at + 39] == 0);
+    ends & plain_client(s, at) & plain_state(s, at)
+}
+
+// Whether the bytes are those written of the eight records that they say; a doubt is a no.
+fn is_plain(s: &[u8]) -> bool
+    requires { ⌜ (length (now s) ≡ 320) × AllBytes (now s) ⌝ }
+    ensures { λ r. ⌜ (r ≡ true → tableBytes (tableOf (now (s .entry))) ≡ now (s .entry)) ⌝ }
+{
+    let mut i = 0;
+    while i < 8 {
+        if !plain_record(s, 40 * i) {
+            return false;
+        }
+        i += 1;
+    }
+    true
+}
+
+// What the type of an array says, for the proof: its elements are bytes. The call does nothing.
+fn are_bytes(t: [u8; 320])
+    ensures { λ _. ⌜ AllBytes t ⌝ }
+{}
 
 // The bytes are those of the records that they say.
 pub fn tidy(t: &mut [u8; 320])
     ensures { λ _. ⌜ now (t .exit) ≡ tableBytes (tableOf (now (t .entry))) ⌝ }
 {
+    are_bytes(*t);
+    if is_plain(t) {
+        return;
+    }
     let row = record::table_of(t);
     record::put_table(t, row);
 }
