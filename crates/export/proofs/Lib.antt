@@ -1,3 +1,7 @@
+pub mod Seats
+pub mod Accepting
+pub mod Testing
+pub mod Quiet
 pub mod Through
 pub mod Refusals
 pub mod Narrow

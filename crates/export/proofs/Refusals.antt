@@ -90,7 +90,7 @@ tick-refusal-leaves clock image answer table area =
     pick-elim (LeavesAll table area image answer) (eqb (length table) 320) _ _ (λ e. tick-leaves clock image answer (rowOf true table) table area) (λ e l h. refl)
 
 -- 320 bytes that are no table, or a client that is none: 3, after 1 and 2, and all is left
-no-table-unsound : soundTable noTable ≡ false
+pub no-table-unsound : soundTable noTable ≡ false
 unfolding soundTable ordered areasOnce every count pick RECORDS
 no-table-unsound = refl
 

@@ -359,6 +359,16 @@ pub fn is_quiet(t: &[u8; 320], clock: u64) -> bool
     true
 }
 
+// The area number of the record at a place; 0 past the end.
+pub fn area_at(t: &[u8; 320], i: usize) -> u8
+    ensures { λ r. ⌜ r ≡ getD (tableOf (now (t .entry))) i (fresh 0) .area ⌝ }
+{
+    if i < 8 {
+        return byte(t, i, 9);
+    }
+    0
+}
+
 // The record at a place; past the end a fresh one.
 pub fn record_at(t: &[u8; 320], i: usize) -> Connection
     ensures { λ r. ⌜ r ≡ getD (tableOf (now (t .entry))) i (fresh 0) ⌝ }

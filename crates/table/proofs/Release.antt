@@ -74,7 +74,7 @@ abbrev area : Connection → Connection
 area r = fresh (r .area)
 
 -- a place in the row, and one past its end
-dropped-in : (t : List Connection) (i : ℕ) → i < length t → droppedAt i t ≡ take i t ++ drop (suc i) t ++ (area (getD t i (fresh 0)) ∷ [])
+pub dropped-in : (t : List Connection) (i : ℕ) → i < length t → droppedAt i t ≡ take i t ++ drop (suc i) t ++ (area (getD t i (fresh 0)) ∷ [])
 unfolding droppedAt
 dropped-in t i h = sym (pick-t _ _ _ _ (lt-ltb i (length t) h) refl)
 

@@ -1,6 +1,7 @@
 -- Left by refusals 1 to 7, and else stored.
 use Rattle.export.specs.Exported.{tableLeft}
-use mathlib.Core.Path.{refl, sym, _∙_}
+use lib.ListN.{length}
+use mathlib.Core.Path.{_≡_, refl, sym, _∙_}
 use borrow.Author.Tests.{eq-eqb}
 use Rattle.picks.proofs.Picks.{pick-t, pick-f}
 use borrow.Author.Needs.{needs}
@@ -13,8 +14,7 @@ returns c = pick-t _ _ _ _ (c .if1 .taken) refl
 
 returns-2 : tie.Need-returns-2
 unfolding tableLeft
-returns-2 c =
-    let stored = pick-t _ _ _ _ (eq-eqb _ _ (c .before .before .before .before .before .before .pre)) refl in pick-f _ _ _ _ (c .before .before .before .before .if1 .left) (c .before .before .put-table .ensures ∙ sym stored)
+returns-2 c = let a = c .before .before .before .args in let l : length (a .t .now) ≡ 320 = search needs in pick-f _ _ _ _ (c .before .before .if1 .left) (c .put-table .ensures ∙ sym (pick-t _ _ _ _ (eq-eqb _ _ l) refl))
 
 pub leave-spec : {M : Type 1} → statement M
 leave-spec =
@@ -22,5 +22,4 @@ leave-spec =
     (tie.spec
     returns
     (λ c κs. search needs)
-    (λ c. search needs)
     returns-2)

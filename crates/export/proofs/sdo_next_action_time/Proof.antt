@@ -1,9 +1,11 @@
--- Refused by the length, or the query on the records.
+-- Refused by the length, or the earliest deadline of the bytes.
 use Rattle.export.specs.Exported.{queryAnswer, queryBytes}
-use Rattle.protocol.specs.DeadlineQuery.{queryOf}
-use mathlib.Core.Path.{refl, ap, _∙_}
-use borrow.Author.Tests.{eq-eqb, ne-eqb}
-use Rattle.picks.proofs.Picks.{pick-t, pick-f}
+use Rattle.export.proofs.Through.{query-sound-bytes, query-unsound-bytes}
+use Rattle.record.proofs.Writing.{splice-whole}
+use lib.ListN.{replicate}
+use mathlib.Core.Path.{refl, _∙_}
+use borrow.Author.Tests.{ne-eqb}
+use Rattle.picks.proofs.Picks.{flag, pick-f}
 use borrow.Author.Needs.{needs}
 use Rattle.export.proofs.sdo_next_action_time.Statement.{statement}
 use Rattle.export.proofs.sdo_next_action_time.Tie as tie
@@ -13,10 +15,22 @@ unfolding queryBytes
 returns c = pick-f _ _ _ _ (ne-eqb _ _ (c .if1 .taken)) refl
 
 returns-2 : tie.Need-returns-2
-unfolding queryBytes
-returns-2 c = pick-t _ _ _ _ (eq-eqb _ _ (c .before .before .before .if1 .left)) (c .of-query .ensures ∙ ap queryAnswer (c .before .next-action-time .ensures ∙ ap queryOf (c .before .before .row-of .ensures)))
+returns-2 c = let a = c .before .before .before .before .before .before .before .before .before .before .before .before .args in let long = c .before .before .before .before .before .before .before .before .before .before .if1 .left in let t = a .table .now in let e = c .before .before .before .before .before .before .before .before .copy-at .ensures ∙ splice-whole t (replicate 320 0) long in c .of-query .ensures ∙ query-sound-bytes t _ _ _ long e (c .before .before .next-deadline .ensures) (c .before .next-action .ensures) (flag (c .before .before .before .before .before .is-sound .ensures) (c .before .before .before .before .if2 .taken))
+
+returns-3 : tie.Need-returns-3
+returns-3 c = let a = c .before .before .before .before .before .before .before .before .before .args in let long = c .before .before .before .before .before .before .before .if1 .left in let t = a .table .now in let e = c .before .before .before .before .before .copy-at .ensures ∙ splice-whole t (replicate 320 0) long in c .of-query2 .ensures ∙ query-unsound-bytes t _ long e (flag (c .before .before .is-sound .ensures) (c .before .if2 .left))
 
 pub sdo-next-action-time-spec : {M : Type 1} → statement M
 sdo-next-action-time-spec =
     tie.close
-    (tie.spec returns (λ c κs. search needs) (λ c κs. search needs) (λ c κs. search needs) returns-2)
+    (tie.spec
+    returns
+    (λ c. search needs)
+    (λ c κs. search needs)
+    (λ c κs. search needs)
+    (λ c κs. search needs)
+    (λ c κs. search needs)
+    (λ c κs. search needs)
+    returns-2
+    (λ c κs. search needs)
+    returns-3)
