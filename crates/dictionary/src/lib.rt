@@ -3,19 +3,20 @@ use protocol::Access;
 use protocol::Entry;
 use protocol::Lookup;
 ghost use mathlib.Core.Path.{_≡_};
-ghost use Prim.Native.Nat.{_+_, _*_, _≤_};
-ghost use mathlib.Core.Bool.{_&&_};
-ghost use lib.Dec.{eqb};
+ghost use Prim.Native.Nat.{ℕ, _+_, _*_, _≤_, _<_, min};
+ghost use mathlib.Core.Bool.{Bool, false, _&&_, _||_};
+ghost use lib.Dec.{leb, eqb};
 ghost use lib.ListN.{length, getD, take, drop};
 ghost use Rattle.picks.specs.Pick.{pick};
 ghost use Rattle.octets.specs.Octets.{le, leBytes, splice};
 ghost use Rattle.protocol.specs.declared.Lookup.the-variants.{NoObject, NoSubIndex, Found};
+ghost use Rattle.dictionary.specs.Skipping.{inRange, among, lookupFrom};
 ghost use Rattle.protocol.specs.DictionaryImage.{entryAt, entriesFrom, isVariable, isReadOnly, key, soundEntry, soundEntries, soundImage, lookup, valueOf, readable, parameterOf, timeoutOf, retriesOf, writable, writeImage};
 
 // The longest image, and the largest capacity of an entry.
 const IMAGE_MAX: usize = 65536;
 
-const CAPACITY_MAX: u16 = 8192;
+const CAPACITY_MAX: u32 = 8192;
 
 // The objects of the two parameters, and what holds where they are missing.
 const TIMEOUT_INDEX: u16 = 0x1300;
@@ -25,6 +26,11 @@ const RETRIES_INDEX: u16 = 0x1302;
 const DEFAULT_TIMEOUT: u32 = 15000;
 
 const DEFAULT_RETRIES: u32 = 2;
+
+// Indices that one byte tells from others, with the two parameters' among them.
+const NEAR_LOW: u16 = 0x1300;
+
+const NEAR_HIGH: u16 = 0x13FF;
 
 // The abort codes of a read and a write.
 const READ_ONLY: u32 = 0x06010002;
@@ -39,6 +45,12 @@ const NO_SUB_INDEX: u32 = 0x06090011;
 
 // The last place to which ten can be added.
 const PLACE_MAX: usize = 18446744073709551605;
+
+// The two parameters of a transfer.
+pub struct Parameters {
+    pub timeout: u32, // in milliseconds
+    pub retries: u32, // how often a segment is sent again
+}
 
 // The entry at a place; bytes past the end are 0.
 pub fn entry_at(image: &[u8], at: usize) -> Entry
@@ -125,29 +137,40 @@ fn key_of(e: Entry) -> u32
     (index as u32) * 256 + (sub as u32)
 }
 
+// Whether an entry's length is its capacity, or lies below it and may.
+fn has_room(e: Entry) -> bool
+    ensures { λ r. ⌜ r ≡ (leb (e .length) (e .capacity) && (isVariable e || eqb (e .length) (e .capacity))) ⌝ }
+{
+    if e.length == e.capacity {
+        return true;
+    }
+    if e.capacity < e.length {
+        return false;
+    }
+    is_variable(e)
+}
+
 // Whether an entry is sound, with a key of at least `least` and its body at `start`.
 fn is_sound(e: Entry, least: u32, start: u32) -> bool
     ensures { λ r. ⌜ r ≡ soundEntry least start e ⌝ }
 {
-    if key_of(e) < least {
-        return false;
-    }
+    let capacity = e.capacity as u32;
     if 3 < e.flags {
         return false;
     }
-    if e.capacity < 1 {
-        return false;
-    }
-    if CAPACITY_MAX < e.capacity {
+    if key_of(e) < least {
         return false;
     }
     if e.body != start {
         return false;
     }
-    if e.capacity < e.length {
+    if capacity < 1 {
         return false;
     }
-    is_variable(e) | (e.length == e.capacity)
+    if CAPACITY_MAX < capacity {
+        return false;
+    }
+    has_room(e)
 }
 
 // Whether the first n entries of an image are sound, one behind the other, up to its end.
@@ -224,14 +247,66 @@ fn missing(seen: bool) -> Lookup
     }
 }
 
-// The entry of an index and sub-index, or which of the two is missing. Behind the end all entries are alike, so that one is enough.
-pub fn lookup(image: &[u8], index: u16, sub: u8) -> Lookup
-    ensures { λ r. ⌜ r ≡ lookup (now (image .entry)) index sub ⌝ }
+// Where the entries of an image end: behind the last one, or with the image.
+fn entries_end(image: &[u8], n: usize) -> usize
+    requires { ⌜ n ≤ 65535 ⌝ }
+    ensures { λ r. ⌜ r ≡ min (length (now (image .entry))) (2 + 12 * n) ⌝ }
 {
-    let n = octets::u16_at(image, 0) as usize;
-    let mut i = 0;
+    let end = 2 + 12 * n;
+    if image.len() < end { image.len() } else { end }
+}
+
+// Whether the index of the entry at a place within the image is one of a range.
+fn in_range(image: &[u8], at: usize, low: u16, high: u16) -> bool
+    requires { ⌜ at + 2 ≤ length (now image) ⌝ }
+    ensures { λ r. ⌜ r ≡ inRange low high (entryAt (now (image .entry)) at) ⌝ }
+{
+    let index = u16_in(image, at);
+    (low <= index) & (index <= high)
+}
+
+// Whether the index of one of the four entries from a place on, all within the image, is one of a range.
+fn among_four(image: &[u8], at: usize, low: u16, high: u16) -> bool
+    requires { ⌜ at + 38 ≤ length (now image) ⌝ }
+    ensures { λ r. ⌜ r ≡ among low high (entriesFrom (now (image .entry)) at 4) ⌝ }
+{
+    if in_range(image, at, low, high) {
+        return true;
+    }
+    if in_range(image, at + 12, low, high) {
+        return true;
+    }
+    if in_range(image, at + 24, low, high) {
+        return true;
+    }
+    in_range(image, at + 36, low, high)
+}
+
+// Entries from a position on without an index of a range are skipped, four at a time, but never the last of n.
+fn skip(image: &[u8], from: usize, n: usize, low: u16, high: u16) -> usize
+    requires { ⌜ (from ≤ 65535) × (n ≤ 65535) ⌝ }
+    ensures { λ r. ⌜ (from ≤ r) × (from < n → r < n) × ((index sub : ℕ) (seen : Bool) → low ≤ index → index ≤ high → lookupFrom (now (image .entry)) n from index sub seen ≡ lookupFrom (now (image .entry)) n r index sub seen) ⌝ }
+{
+    let end = entries_end(image, n);
+    let mut i = from;
+    while 12 * i + 50 < end {
+        if among_four(image, 2 + 12 * i, low, high) {
+            return i;
+        }
+        i += 4;
+    }
+    i
+}
+
+// What the entries from a position on say of an index and sub-index. Behind the end all entries are alike, so that one is enough.
+fn lookup_from(image: &[u8], from: usize, n: usize, index: u16, sub: u8) -> Lookup
+    requires { ⌜ n ≤ 65535 ⌝ }
+    ensures { λ r. ⌜ r ≡ lookupFrom (now (image .entry)) n from index sub false ⌝ }
+{
+    let mut i = from;
     let mut seen = false;
     while i < n {
+        i = skip(image, i, n, index, index);
         let at = 2 + 12 * i;
         let here = has_index(image, at, index);
         if has_sub(image, at, sub, here) {
@@ -244,6 +319,14 @@ pub fn lookup(image: &[u8], index: u16, sub: u8) -> Lookup
         i += 1;
     }
     missing(seen)
+}
+
+// The entry of an index and sub-index, or which of the two is missing.
+pub fn lookup(image: &[u8], index: u16, sub: u8) -> Lookup
+    ensures { λ r. ⌜ r ≡ lookup (now (image .entry)) index sub ⌝ }
+{
+    let n = octets::u16_at(image, 0) as usize;
+    lookup_from(image, 0, n, index, sub)
 }
 
 // The value that an entry holds.
@@ -278,11 +361,12 @@ fn number(image: &[u8], e: Entry, default: u32) -> u32
     }
 }
 
-// The number at sub-index 0 of an object, or the default.
-fn parameter(image: &[u8], index: u16, default: u32) -> u32
-    ensures { λ r. ⌜ r ≡ parameterOf (now (image .entry)) default (lookup (now (image .entry)) index 0) ⌝ }
+// The number at sub-index 0 of an object, which is looked up from a position on, or the default.
+fn parameter(image: &[u8], from: usize, n: usize, index: u16, default: u32) -> u32
+    requires { ⌜ n ≤ 65535 ⌝ }
+    ensures { λ r. ⌜ r ≡ parameterOf (now (image .entry)) default (lookupFrom (now (image .entry)) n from index 0 false) ⌝ }
 {
-    let l = lookup(image, index, 0);
+    let l = lookup_from(image, from, n, index, 0);
     match l {
         Lookup::NoObject => default,
         Lookup::NoSubIndex => default,
@@ -290,18 +374,24 @@ fn parameter(image: &[u8], index: u16, default: u32) -> u32
     }
 }
 
+// The two parameters in one pass: both are looked up from the first entries on whose index is near theirs.
+pub fn parameters_in(image: &[u8]) -> Parameters
+    ensures { λ r. ⌜ r .timeout ≡ timeoutOf (now (image .entry)) ⌝ ∗ ⌜ r .retries ≡ retriesOf (now (image .entry)) ⌝ }
+{
+    let n = octets::u16_at(image, 0) as usize;
+    let i = skip(image, 0, n, NEAR_LOW, NEAR_HIGH);
+    Parameters {
+        timeout: parameter(image, i, n, TIMEOUT_INDEX, DEFAULT_TIMEOUT),
+        retries: parameter(image, i, n, RETRIES_INDEX, DEFAULT_RETRIES),
+    }
+}
+
 // The timeout of a transfer in milliseconds.
 pub fn timeout(image: &[u8]) -> u32
     ensures { λ r. ⌜ r ≡ timeoutOf (now (image .entry)) ⌝ }
 {
-    parameter(image, TIMEOUT_INDEX, DEFAULT_TIMEOUT)
-}
-
-// How often a segment is sent again.
-pub fn retries(image: &[u8]) -> u32
-    ensures { λ r. ⌜ r ≡ retriesOf (now (image .entry)) ⌝ }
-{
-    parameter(image, RETRIES_INDEX, DEFAULT_RETRIES)
+    let n = octets::u16_at(image, 0) as usize;
+    parameter(image, 0, n, TIMEOUT_INDEX, DEFAULT_TIMEOUT)
 }
 
 // What a write of n bytes to an entry is.

@@ -13,10 +13,10 @@ use protocol::SdoTransferState;
 use protocol::Segmentation;
 ghost use mathlib.Core.Path.{_≡_};
 ghost use mathlib.Core.List.{List};
-ghost use Prim.Native.Nat.{ℕ, _+_, _-_};
+ghost use Prim.Native.Nat.{ℕ, _+_, _-_, _*_, min};
 ghost use lib.Dec.{eqb};
 ghost use Rattle.picks.specs.Pick.{pick};
-ghost use Rattle.protocol.specs.Constants.{PIECE};
+ghost use Rattle.protocol.specs.Constants.{PIECE, CLOCK-MAX};
 ghost use Rattle.protocol.specs.Command.{withPayload};
 ghost use Rattle.protocol.specs.TransferRecord.{moved, withState, bodyBytes, toldAction, pieceLength, pieceKind, piece, storedPiece, deadlineAfter, afterPiece, isLast, advance};
 
@@ -121,15 +121,22 @@ pub fn stored_piece(t: SdoTransferState) -> Piece
     piece_at(t.transaction, t.total, t.offset - MAX_EXPEDITED_PAYLOAD)
 }
 
-// The time at which a transfer that goes on now is due.
-pub fn deadline_after(image: &[u8], clock: u64) -> u64
-    ensures { λ r. ⌜ r ≡ deadlineAfter (now (image .entry)) clock ⌝ }
+// The time that lies a timeout behind the clock.
+fn due_after(timeout: u32, clock: u64) -> u64
+    ensures { λ r. ⌜ r ≡ min clock CLOCK-MAX + timeout * 1000 ⌝ }
 {
-    let wait = (dictionary::timeout(image) as u64) * 1000;
+    let wait = (timeout as u64) * 1000;
     if clock <= CLOCK_MAX {
         return clock + wait;
     }
     CLOCK_MAX + wait
+}
+
+// The time at which a transfer that goes on now is due.
+pub fn deadline_after(image: &[u8], clock: u64) -> u64
+    ensures { λ r. ⌜ r ≡ deadlineAfter (now (image .entry)) clock ⌝ }
+{
+    due_after(dictionary::timeout(image), clock)
 }
 
 // Whether the next piece is the last.
@@ -145,14 +152,15 @@ fn after_piece(t: SdoTransferState, image: &[u8], clock: u64) -> SdoTransferStat
     ensures { λ r. ⌜ r ≡ afterPiece t (now (image .entry)) clock ⌝ }
 {
     let n = piece_length(t.total, t.offset);
+    let p = dictionary::parameters_in(image);
     SdoTransferState {
         transaction: t.transaction,
         total: t.total,
         offset: t.offset + n,
         index: t.index,
         sub: t.sub,
-        deadline: Deadline::At(deadline_after(image, clock)),
-        retries: dictionary::retries(image),
+        deadline: Deadline::At(due_after(p.timeout, clock)),
+        retries: p.retries,
         stored: true,
     }
 }

@@ -10,19 +10,19 @@ returns : tie.Need-returns
 unfolding parameterOf
 returns c =
     let a = c .before .before .before .before .args in
-    at-case (parameterOf (a .image .now) (a .default)) (sym (c .before .before .lookup .ensures) ∙ c .enum-told .given .1) refl
+    at-case (parameterOf (a .image .now) (a .default)) (sym (c .before .before .lookup-from .ensures) ∙ c .enum-told .given .1) refl
 
 returns-2 : tie.Need-returns-2
 unfolding parameterOf
 returns-2 c =
     let a = c .before .before .before .before .args in
-    at-case (parameterOf (a .image .now) (a .default)) (sym (c .before .before .lookup .ensures) ∙ c .enum-told2 .given .1) refl
+    at-case (parameterOf (a .image .now) (a .default)) (sym (c .before .before .lookup-from .ensures) ∙ c .enum-told2 .given .1) refl
 
 returns-3 : tie.Need-returns-3
 returns-3 c =
     let b = c .before .before in
     let a = b .before .before .before .before .args in
-    at-case (parameterOf (a .image .now) (a .default)) (sym (b .before .before .lookup .ensures) ∙ b .l .given .1) (c .number .ensures)
+    at-case (parameterOf (a .image .now) (a .default)) (sym (b .before .before .lookup-from .ensures) ∙ b .l .given .1) (c .number .ensures)
 
 pub parameter-spec : {M : Type 1} → statement M
 parameter-spec =
