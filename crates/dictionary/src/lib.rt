@@ -16,7 +16,7 @@ ghost use Rattle.protocol.specs.DictionaryImage.{entryAt, entriesFrom, isVariab
 // The longest image, and the largest capacity of an entry.
 const IMAGE_MAX: usize = 65536;
 
-const CAPACITY_MAX: u32 = 8192;
+const CAPACITY_MAX: u16 = 8192;
 
 // The objects of the two parameters, and what holds where they are missing.
 const TIMEOUT_INDEX: u16 = 0x1300;
@@ -154,20 +154,19 @@ fn has_room(e: Entry) -> bool
 fn is_sound(e: Entry, least: u32, start: u32) -> bool
     ensures { λ r. ⌜ r ≡ soundEntry least start e ⌝ }
 {
-    let capacity = e.capacity as u32;
     if 3 < e.flags {
         return false;
     }
-    if key_of(e) < least {
+    if e.capacity < 1 {
+        return false;
+    }
+    if CAPACITY_MAX < e.capacity {
         return false;
     }
     if e.body != start {
         return false;
     }
-    if capacity < 1 {
-        return false;
-    }
-    if CAPACITY_MAX < capacity {
+    if key_of(e) < least {
         return false;
     }
     has_room(e)
