@@ -212,6 +212,17 @@ pub fn sound_image(image: &[u8]) -> bool
     sound_entries(image, n)
 }
 
+// The entry at a place that a count of entries can reach.
+fn entry_near(image: &[u8], at: usize) -> Entry
+    requires { ⌜ at ≤ 786422 ⌝ }
+    ensures { λ r. ⌜ r ≡ entryAt (now (image .entry)) at ⌝ }
+{
+    if image.len() < at + 12 {
+        return entry_at(image, at);
+    }
+    entry_in(image, at)
+}
+
 // Whether the entry at a place, one that a count of entries can reach, has this index.
 fn has_index(image: &[u8], at: usize, index: u16) -> bool
     requires { ⌜ at ≤ 786422 ⌝ }
@@ -225,11 +236,11 @@ fn has_index(image: &[u8], at: usize, index: u16) -> bool
 
 // Whether an entry's index is the one asked for, and the entry at the place has this sub-index.
 fn has_sub(image: &[u8], at: usize, sub: u8, here: bool) -> bool
+    requires { ⌜ at ≤ 786422 ⌝ }
     ensures { λ r. ⌜ r ≡ (here && eqb (entryAt (now (image .entry)) at .sub) sub) ⌝ }
 {
     if here {
-        let e = entry_at(image, at);
-        e.sub == sub
+        octets::byte_at(image, at + 2) == sub
     } else {
         false
     }
@@ -309,7 +320,7 @@ fn lookup_from(image: &[u8], from: usize, n: usize, index: u16, sub: u8) -> Look
         let at = 2 + 12 * i;
         let here = has_index(image, at, index);
         if has_sub(image, at, sub, here) {
-            return Lookup::Found(entry_at(image, at));
+            return Lookup::Found(entry_near(image, at));
         }
         seen = seen | here;
         if image.len() <= at {
