@@ -1,7 +1,6 @@
 -- An equal length decides, then one that is too long; what is left is below the capacity.
-use mathlib.Core.Bool.{or-true, or-false}
 use Prim.Native.Nat.{_≤_}
-use mathlib.Core.Path.{sym}
+use mathlib.Core.Bool.{or-true, or-false}
 use native.Mathlib.Omega.{arith}
 use borrow.Author.Needs.{needs}
 use borrow.Author.Tests.{le-leb, lt-leb, eq-eqb, ne-eqb}

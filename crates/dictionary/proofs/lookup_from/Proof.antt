@@ -1,5 +1,5 @@
 -- What is looked up is what the entries from the turn's on give, and whether the index was seen before them. What a turn skips changes nothing.
-use Prim.Native.Nat.{_+_, _*_, _-_, _≤_}
+use Prim.Native.Nat.{_+_, _*_, _-_}
 use mathlib.Core.Path.{_≡_, refl, ap, _∙_}
 use mathlib.Core.Bool.{false}
 use Rattle.picks.proofs.Picks.{flag}

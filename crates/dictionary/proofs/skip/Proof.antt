@@ -1,5 +1,5 @@
 -- What was skipped changes no look-up of an index of the range.
-use Prim.Native.Nat.{ℕ, _+_, _*_, _-_, _≤_, _<_}
+use Prim.Native.Nat.{ℕ, _-_, _≤_, _<_}
 use mathlib.Core.Path.{_≡_, refl, _∙_}
 use mathlib.Core.Bool.{Bool}
 use Rattle.picks.proofs.Picks.{flag}
