@@ -1,1 +1,4 @@
-pub mod Within
+pub mod Items
+pub mod Outcomes
+pub mod Playing
+pub mod Places

@@ -2,22 +2,29 @@
 use crate::INPUT;
 use crate::Place;
 ghost use mathlib.Core.Path.{_≡_};
-ghost use Prim.Native.Nat.{_+_, _≤_};
-ghost use lib.ListN.{length};
-ghost use Rattle.script.specs.Within.{Within};
+ghost use mathlib.Core.List.{_++_};
+ghost use Prim.Native.Nat.{_+_, _-_, _≤_};
+ghost use lib.ListN.{length, take, drop};
+ghost use Rattle.script.specs.Places.{unplayedOf, Refilled};
+
+// How many bytes there are from a place to another; none where that is before it.
+fn between(start: usize, end: usize) -> usize
+    ensures { λ r. ⌜ r ≡ end - start ⌝ }
+{
+    if end <= start { 0 } else { end - start }
+}
 
 // What is not played yet, as far as it is read.
 pub fn unplayed(input: &[u8; INPUT], p: Place) -> &[u8]
-    requires { ⌜ Within p ⌝ }
-    ensures { λ r. ⌜ p .start + length (now r) ≡ p .end ⌝ }
+    ensures { λ r. ⌜ now r ≡ unplayedOf (now (input .entry)) p ⌝ }
 {
-    octets::part(input, p.start, p.end - p.start)
+    octets::part(input, p.start, between(p.start, p.end))
 }
 
 // Reads once into the buffer from n on, and answers how many bytes came: none at the end of the input, or where it cannot be read.
 fn read_at(buffer: &mut [u8], n: usize) -> usize
     requires { ⌜ n ≤ length (now buffer) ⌝ }
-    ensures { λ r. ⌜ n + r ≤ length (now (buffer .entry)) ⌝ }
+    ensures { λ r. ⌜ (n + r ≤ length (now (buffer .entry))) × (take n (now (buffer .exit)) ≡ take n (now (buffer .entry))) ⌝ }
 {
     let part = &mut buffer[n..];
     let got = libc::read(libc::STDIN_FILENO, part);
@@ -25,8 +32,9 @@ fn read_at(buffer: &mut [u8], n: usize) -> usize
 }
 
 // Moves n bytes from a place to the front of the input buffer.
-fn move_to_front(input: &mut [u8; INPUT], start: usize, n: usize)
-    requires { ⌜ start + n ≤ 262144 ⌝ }
+fn move_to_front(input: &mut [u8], start: usize, n: usize)
+    requires { ⌜ n ≤ length (now input) - start ⌝ }
+    ensures { λ _. ⌜ now (input .exit) ≡ take n (drop start (now (input .entry))) ++ drop n (now (input .entry)) ⌝ }
 {
     let mut i = 0;
     while i < n {
@@ -37,10 +45,9 @@ fn move_to_front(input: &mut [u8; INPUT], start: usize, n: usize)
 
 // Moves what is not played yet to the front of the input buffer and reads once behind it.
 pub fn refilled(input: &mut [u8; INPUT], mut p: Place) -> Place
-    requires { ⌜ Within p ⌝ }
-    ensures { λ r. ⌜ Within r ⌝ }
+    ensures { λ r. ⌜ Refilled (now (input .entry)) p (now (input .exit)) r ⌝ }
 {
-    let n = p.end - p.start;
+    let n = unplayed(input, p).len();
     move_to_front(input, p.start, n);
     let got = read_at(input, n);
     p.start = 0;

@@ -5,9 +5,14 @@ pub mod told;
 use protocol::Connection;
 use protocol::SdoClientInfo;
 use told::Told;
-ghost use Prim.Native.Nat.{_+_, _≤_};
+ghost use mathlib.Core.Path.{_≡_};
+ghost use Prim.Native.Nat.{_≤_, min};
 ghost use lib.ListN.{length};
-ghost use Rattle.script.specs.Within.{Lendable, Within};
+ghost use Rattle.picks.specs.Pick.{pick};
+ghost use Rattle.record.specs.Format.{numberAt};
+ghost use Rattle.script.specs.Items.{clientIn, clockIn, requestIn, isImage, lengthOf};
+ghost use Rattle.script.specs.Playing.{left, lends, unknown, calls, imageLent, imageStored, tableLent, filled, lengthsLent, lentArea, blank, requestOn, tickOn, queryOn, requestPlayed, playOf};
+ghost use Rattle.script.specs.Places.{atStart, behind};
 
 // The buffers: an image, the input, the answer, and the area as far as it can be lent.
 pub const IMAGE: usize = 131072;
@@ -55,28 +60,27 @@ pub struct Played {
     pub lent: Lent,
 }
 
-// What a call leaves.
-struct Called {
-    told: Told,
-    table: [Connection; 8],
-}
-
 // The image's length in item 4. One above its limit counts as 0: no image is waited for, and the item is unknown.
 fn image_length(item: &[u8]) -> usize
+    ensures { λ r. ⌜ r ≡ pick (isImage (now (item .entry))) (numberAt 4 1 (now (item .entry))) 0 ⌝ }
     ensures { λ r. ⌜ r ≤ 131072 ⌝ }
 {
     let n = octets::u32_at(item, 1);
-    if n <= 131072 { n as usize } else { 0 }
+    if n <= 131072 {
+        return n as usize;
+    }
+    0
 }
 
 // How long the item at the start of these bytes is. Where they end before the bytes that tell it, the answer is still more than they are.
 pub fn length_of(s: &[u8]) -> usize
-    ensures { λ r. ⌜ r ≤ 131077 ⌝ }
+    ensures { λ r. ⌜ r ≡ lengthOf (now (s .entry)) ⌝ }
 {
     let kind = octets::byte_at(s, 0);
     match kind {
         1 => 19 + (octets::u16_at(s, 17) as usize),
         2 => 9,
+        3 => 1,
         4 => 5 + image_length(s),
         5 => 321,
         6 => 2,
@@ -86,66 +90,97 @@ pub fn length_of(s: &[u8]) -> usize
 }
 
 // The client of item 1.
-pub fn client_of(item: &[u8]) -> SdoClientInfo {
+pub fn client_of(item: &[u8]) -> SdoClientInfo
+    ensures { λ r. ⌜ r ≡ clientIn (now (item .entry)) ⌝ }
+{
     record::client_of(octets::rest(item, 1))
 }
 
 // The request of item 1.
-pub fn request_of(item: &[u8]) -> &[u8] {
-    octets::rest(item, 19)
+pub fn request_of(item: &[u8]) -> &[u8]
+    ensures { λ r. ⌜ now r ≡ requestIn (now (item .entry)) ⌝ }
+{
+    octets::part(item, 19, octets::u16_at(item, 17) as usize)
 }
 
 // The clock of item 1 or 2.
-pub fn clock_of(item: &[u8]) -> u64 {
+pub fn clock_of(item: &[u8]) -> u64
+    ensures { λ r. ⌜ r ≡ clockIn (now (item .entry)) ⌝ }
+{
     if octets::byte_at(item, 0) == 1 {
         return octets::u64_at(item, 9);
     }
     octets::u64_at(item, 1)
 }
 
-// An item that is no call, known or not.
-fn leaves(known: bool, lent: Lent) -> Played
-    requires { ⌜ Lendable lent ⌝ }
-    ensures { λ r. ⌜ Lendable (r .lent) ⌝ }
+// An item that lends something.
+fn lends(lent: Lent) -> Played
+    ensures { λ r. ⌜ r ≡ lends lent ⌝ }
 {
     Played {
-        known: known,
+        known: true,
         call: false,
         told: told::only(0),
         lent: lent,
     }
 }
 
+// An item that there is not.
+fn unknown(lent: Lent) -> Played
+    ensures { λ r. ⌜ r ≡ unknown lent ⌝ }
+{
+    Played {
+        known: false,
+        call: false,
+        told: told::only(0),
+        lent: lent,
+    }
+}
+
+// A call, with the table that it leaves.
+fn calls(told: Told, mut lent: Lent, table: [Connection; 8]) -> Played
+    ensures { λ r. ⌜ (r ≡ calls told lent table) × (length table ≡ 8) ⌝ }
+{
+    lent.table = table;
+    Played {
+        known: true,
+        call: true,
+        told: told,
+        lent: lent,
+    }
+}
+
 // Item 4: an image is lent.
 fn lend_image(item: &[u8], mut lent: Lent, image: &mut [u8; IMAGE]) -> Played
-    requires { ⌜ Lendable lent ⌝ }
-    ensures { λ r. ⌜ Lendable (r .lent) ⌝ }
+    ensures { λ r. ⌜ (r ≡ imageLent (now (item .entry)) lent) × (now (image .exit) ≡ imageStored (now (item .entry)) (now (image .entry))) ⌝ }
 {
-    if 131072 < octets::u32_at(item, 1) {
-        return leaves(false, lent);
+    let n = octets::u32_at(item, 1);
+    if 131072 < n {
+        return unknown(lent);
     }
-    let n = image_length(item);
-    octets::copy_at(image, 0, octets::part(item, 5, n));
-    lent.image = n;
-    leaves(true, lent)
+    octets::copy_at(image, 0, octets::part(item, 5, n as usize));
+    lent.image = n as usize;
+    lends(lent)
 }
 
 // Item 5: a table is lent.
 fn lend_table(item: &[u8], mut lent: Lent) -> Played
-    requires { ⌜ Lendable lent ⌝ }
-    ensures { λ r. ⌜ Lendable (r .lent) ⌝ }
+    ensures { λ r. ⌜ r ≡ tableLent (now (item .entry)) lent ⌝ }
 {
     let s = octets::rest(item, 1);
-    if !record::is_table(s) {
-        return leaves(false, lent);
+    if record::is_table(s) {
+        let table = record::table_of(s);
+        lent.table = table;
+        return lends(lent);
     }
-    let table = record::table_of(s);
-    lent.table = table;
-    leaves(true, lent)
+    unknown(lent)
 }
 
 // Item 6: area byte i becomes (b + 7 i + i / 256) mod 256.
-fn fill_area(b: u8, area: &mut [u8; LENT_AREA]) {
+fn fill_area(b: u8, area: &mut [u8])
+    requires { ⌜ 65536 ≤ length (now area) ⌝ }
+    ensures { λ _. ⌜ now (area .exit) ≡ filled b (now (area .entry)) ⌝ }
+{
     let first = b as usize;
     let mut i = 0;
     while i < AREA {
@@ -156,62 +191,63 @@ fn fill_area(b: u8, area: &mut [u8; LENT_AREA]) {
 
 // Item 7: how much is lent.
 fn lend_lengths(item: &[u8], mut lent: Lent) -> Played
-    requires { ⌜ Lendable lent ⌝ }
-    ensures { λ r. ⌜ Lendable (r .lent) ⌝ }
+    ensures { λ r. ⌜ r ≡ lengthsLent (now (item .entry)) lent ⌝ }
 {
     let answer = octets::u32_at(item, 1);
     let area = octets::u32_at(item, 5);
     let records = octets::byte_at(item, 9);
-    if 1600 < answer {
-        return leaves(false, lent);
+    let fit = (answer <= 1600) & (area <= 65600) & (records <= LENT_RECORDS);
+    if fit {
+        lent.answer = answer as usize;
+        lent.area = area as usize;
+        lent.records = records;
+        return lends(lent);
     }
-    if 65600 < area {
-        return leaves(false, lent);
-    }
-    if LENT_RECORDS < records {
-        return leaves(false, lent);
-    }
-    lent.answer = answer as usize;
-    lent.area = area as usize;
-    lent.records = records;
-    leaves(true, lent)
+    unknown(lent)
 }
 
-// Items 4 to 7: they lend something.
-fn lend(item: &[u8], lent: Lent, area: &mut [u8; LENT_AREA], image: &mut [u8; IMAGE]) -> Played
-    requires { ⌜ Lendable lent ⌝ }
-    ensures { λ r. ⌜ Lendable (r .lent) ⌝ }
+// The lesser of two numbers.
+fn least(a: usize, b: usize) -> usize
+    ensures { λ r. ⌜ r ≡ min a b ⌝ }
 {
-    let kind = octets::byte_at(item, 0);
-    match kind {
-        4 => lend_image(item, lent, image),
-        5 => lend_table(item, lent),
-        6 => {
-            fill_area(octets::byte_at(item, 1), area);
-            leaves(true, lent)
-        }
-        7 => lend_lengths(item, lent),
-        _ => leaves(false, lent),
-    }
+    if a <= b { a } else { b }
 }
 
-// Item 1: a request.
+// A call finds the answer buffer filled, and zeros past the area's own length.
+fn ready(area: &mut [u8; LENT_AREA], answer: &mut [u8; ANSWER])
+    ensures { λ _. ⌜ (now (area .exit) ≡ lentArea (now (area .entry))) × (now (answer .exit) ≡ blank) ⌝ }
+{
+    octets::copy_at(answer, 0, &[FILL; ANSWER]);
+    octets::copy_at(area, AREA, &[0; 64]);
+}
+
+// How many records the server's table has.
+fn records_of(table: [Connection; 8]) -> u8
+    ensures { λ r. ⌜ (r ≡ 8) × (length table ≡ 8) ⌝ }
+{
+    RECORDS
+}
+
+// A request on what is lent of the buffers. A table of another length than the server's is refused here: the server cannot be given one.
 fn call_request(
     item: &[u8],
     lent: Lent,
     area: &mut [u8],
     image: &mut [u8],
     answer: &mut [u8],
-) -> Called
-    requires { ⌜ (lent .area ≤ length (now area)) × (lent .image ≤ length (now image)) × (lent .answer ≤ length (now answer)) ⌝ }
+) -> Played
+    ensures { λ r. ⌜ left r (now (area .exit)) (now (image .exit)) (now (answer .exit)) ≡ requestOn (now (item .entry)) lent (now (area .entry)) (now (image .entry)) (now (answer .entry)) ⌝ }
 {
+    let row = lent.table;
+    if lent.records != records_of(row) {
+        return calls(told::only(1), lent, row);
+    }
     let client = client_of(item);
     let clock = clock_of(item);
     let request = request_of(item);
-    let a = lent.area;
-    let b = lent.image;
-    let c = lent.answer;
-    let row = lent.table;
+    let a = least(lent.area, area.len());
+    let b = least(lent.image, image.len());
+    let c = least(lent.answer, answer.len());
     let done = owned::handle_request(
         row,
         &mut area[0..a],
@@ -223,90 +259,85 @@ fn call_request(
     );
     let outcome = done.outcome;
     let table = done.table;
-    Called {
-        told: told::of_request(outcome),
-        table: table,
-    }
+    calls(told::of_request(outcome), lent, table)
 }
 
-// Item 2: a tick.
+// A tick on what is lent of the buffers.
 fn call_tick<'a>(
     item: &[u8],
     lent: Lent,
     area: &'a [u8],
     image: &'a [u8],
     answer: &mut [u8],
-) -> Called
-    requires { ⌜ lent .answer ≤ length (now answer) ⌝ }
+) -> Played
+    ensures { λ r. ⌜ left r (now (area .entry)) (now (image .entry)) (now (answer .exit)) ≡ tickOn (now (item .entry)) lent (now (area .entry)) (now (image .entry)) (now (answer .entry)) ⌝ }
 {
-    let c = lent.answer;
     let row = lent.table;
+    if lent.records != records_of(row) {
+        return calls(told::only(1), lent, row);
+    }
+    let clock = clock_of(item);
+    let c = least(lent.answer, answer.len());
     let done = owned::tick(
         row,
         octets::part(area, 0, lent.area),
         octets::part(image, 0, lent.image),
         &mut answer[0..c],
-        clock_of(item),
+        clock,
     );
     let outcome = done.outcome;
     let table = done.table;
-    Called {
-        told: told::of_tick(outcome),
-        table: table,
-    }
+    calls(told::of_tick(outcome), lent, table)
 }
 
-// Item 3: a deadline query.
-fn call_query(lent: Lent) -> Called {
-    let row = lent.table;
-    Called {
-        told: told::of_query(owned::next_action_time(row)),
-        table: row,
-    }
-}
-
-// A call of any kind on what is lent. A table of another length than the server's is refused here: the server cannot be given one.
-fn call(item: &[u8], lent: Lent, area: &mut [u8], image: &mut [u8], answer: &mut [u8]) -> Called
-    requires { ⌜ (lent .area ≤ length (now area)) × (lent .image ≤ length (now image)) × (lent .answer ≤ length (now answer)) ⌝ }
+// A deadline query on the table that is lent.
+fn call_query(lent: Lent) -> Played
+    ensures { λ r. ⌜ r ≡ queryOn lent ⌝ }
 {
     let row = lent.table;
-    if lent.records != RECORDS {
-        return Called {
-            told: told::only(1),
-            table: row,
-        };
+    if lent.records != records_of(row) {
+        return calls(told::only(1), lent, row);
     }
-    let kind = octets::byte_at(item, 0);
-    match kind {
-        1 => call_request(item, lent, area, image, answer),
-        2 => call_tick(item, lent, area, image, answer),
-        _ => call_query(lent),
-    }
+    calls(told::of_query(owned::next_action_time(row)), lent, row)
 }
 
-// Items 1 to 3: a call on what is lent. It finds the answer buffer filled, and zeros past the area's own length.
-fn play_call(
+// Item 1: a request. A client of a kind that there is not is unknown.
+fn play_request(
     item: &[u8],
-    mut lent: Lent,
+    lent: Lent,
     area: &mut [u8; LENT_AREA],
     image: &mut [u8; IMAGE],
     answer: &mut [u8; ANSWER],
 ) -> Played
-    requires { ⌜ Lendable lent ⌝ }
-    ensures { λ r. ⌜ Lendable (r .lent) ⌝ }
+    ensures { λ r. ⌜ left r (now (area .exit)) (now (image .exit)) (now (answer .exit)) ≡ requestPlayed (now (item .entry)) lent (now (area .entry)) (now (image .entry)) (now (answer .entry)) ⌝ }
 {
-    octets::copy_at(answer, 0, &[FILL; ANSWER]);
-    octets::copy_at(area, AREA, &[0; 64]);
-    let done = call(item, lent, area, image, answer);
-    let told = done.told;
-    let table = done.table;
-    lent.table = table;
-    Played {
-        known: true,
-        call: true,
-        told: told,
-        lent: lent,
+    if record::is_client(octets::rest(item, 1)) {
+        ready(area, answer);
+        return call_request(item, lent, area, image, answer);
     }
+    unknown(lent)
+}
+
+// Item 2: a tick.
+fn play_tick(
+    item: &[u8],
+    lent: Lent,
+    area: &mut [u8; LENT_AREA],
+    image: &[u8; IMAGE],
+    answer: &mut [u8; ANSWER],
+) -> Played
+    ensures { λ r. ⌜ left r (now (area .exit)) (now (image .entry)) (now (answer .exit)) ≡ tickOn (now (item .entry)) lent (lentArea (now (area .entry))) (now (image .entry)) blank ⌝ }
+{
+    ready(area, answer);
+    call_tick(item, lent, area, image, answer)
+}
+
+// Item 3: a deadline query.
+fn play_query(lent: Lent, area: &mut [u8; LENT_AREA], answer: &mut [u8; ANSWER]) -> Played
+    ensures { λ r. ⌜ (r ≡ queryOn lent) × (now (area .exit) ≡ lentArea (now (area .entry))) × (now (answer .exit) ≡ blank) ⌝ }
+{
+    ready(area, answer);
+    call_query(lent)
 }
 
 // Plays an item: it lends something, or a call answers into the buffer.
@@ -317,21 +348,27 @@ pub fn play(
     image: &mut [u8; IMAGE],
     answer: &mut [u8; ANSWER],
 ) -> Played
-    requires { ⌜ Lendable lent ⌝ }
-    ensures { λ r. ⌜ Lendable (r .lent) ⌝ }
+    ensures { λ r. ⌜ left r (now (area .exit)) (now (image .exit)) (now (answer .exit)) ≡ playOf (now (item .entry)) lent (now (area .entry)) (now (image .entry)) (now (answer .entry)) ⌝ }
 {
     let kind = octets::byte_at(item, 0);
-    let client = octets::byte_at(item, 1);
-    let call = (kind == 1) & (client < 2) | (kind == 2) | (kind == 3);
-    if call {
-        return play_call(item, lent, area, image, answer);
+    match kind {
+        1 => play_request(item, lent, area, image, answer),
+        2 => play_tick(item, lent, area, image, answer),
+        3 => play_query(lent, area, answer),
+        4 => lend_image(item, lent, image),
+        5 => lend_table(item, lent),
+        6 => {
+            fill_area(octets::byte_at(item, 1), area);
+            lends(lent)
+        }
+        7 => lend_lengths(item, lent),
+        _ => unknown(lent),
     }
-    lend(item, lent, area, image)
 }
 
 // The place at which a run begins: the empty table, an area of 0 and an image with no entry.
 pub fn begun() -> Place
-    ensures { λ r. ⌜ Within r ⌝ }
+    ensures { λ r. ⌜ r ≡ atStart ⌝ }
 {
     let lent = Lent {
         answer: 1468,
@@ -351,16 +388,15 @@ pub fn begun() -> Place
 
 // The place after an item of n bytes, as far as it is known.
 pub fn passed(mut p: Place, n: usize, done: Played) -> Place
-    requires { ⌜ Within p × (p .start + n ≤ p .end) × Lendable (done .lent) ⌝ }
-    ensures { λ r. ⌜ Within r ⌝ }
+    ensures { λ r. ⌜ r ≡ behind p n done ⌝ }
 {
-    if !done.known {
-        p.going = false;
+    if done.known {
+        let lent = done.lent;
+        p.start = std::num::wrapping_add_usize(p.start, n);
+        p.at = std::num::wrapping_add_u64(p.at, n as u64);
+        p.lent = lent;
         return p;
     }
-    let lent = done.lent;
-    p.start += n;
-    p.at = std::num::wrapping_add_u64(p.at, n as u64);
-    p.lent = lent;
+    p.going = false;
     p
 }

@@ -4,6 +4,12 @@ use protocol::Outcome;
 use protocol::Refusal;
 use protocol::SdoClientInfo;
 use protocol::Ticked;
+ghost use mathlib.Core.Path.{_≡_};
+ghost use Rattle.protocol.specs.Coding.{refusalNumber};
+ghost use Rattle.protocol.specs.Request.{toldOutcome};
+ghost use Rattle.protocol.specs.Tick.{toldTicked};
+ghost use Rattle.protocol.specs.DeadlineQuery.{toldNextAction};
+ghost use Rattle.script.specs.Outcomes.{only, answersTo, dueAt, requestSays, tickSays, querySays};
 
 // What a call of any kind says: the transcript's code (0 an answer, 1 to 9 a refusal, 254 a deadline, 255 nothing), an answer's client and length, a deadline.
 pub struct Told {
@@ -14,17 +20,21 @@ pub struct Told {
 }
 
 // An answer.
-fn answers(client: SdoClientInfo, length: usize) -> Told {
+fn answers(client: SdoClientInfo, size: usize) -> Told
+    ensures { λ r. ⌜ r ≡ answersTo (record { client = client; size = size }) ⌝ }
+{
     Told {
         code: 0,
         client: client,
-        length: length,
+        length: size,
         time: 0,
     }
 }
 
 // A deadline.
-fn deadline(time: u64) -> Told {
+fn deadline(time: u64) -> Told
+    ensures { λ r. ⌜ r ≡ dueAt time ⌝ }
+{
     Told {
         code: 254,
         client: SdoClientInfo::Asnd { node: 0, mac: 0 },
@@ -34,7 +44,9 @@ fn deadline(time: u64) -> Told {
 }
 
 // A code alone.
-pub fn only(code: u8) -> Told {
+pub fn only(code: u8) -> Told
+    ensures { λ r. ⌜ r ≡ only code ⌝ }
+{
     Told {
         code: code,
         client: SdoClientInfo::Asnd { node: 0, mac: 0 },
@@ -43,42 +55,50 @@ pub fn only(code: u8) -> Told {
     }
 }
 
-// A refusal, by its number.
-fn refuses(r: Refusal) -> Told {
+// The number of a refusal.
+fn refusal_number(r: Refusal) -> u8
+    ensures { λ n. ⌜ n ≡ refusalNumber r ⌝ }
+{
     match r {
-        Refusal::Lent => only(1),
-        Refusal::Image => only(2),
-        Refusal::Table => only(3),
-        Refusal::Clock => only(4),
-        Refusal::Short => only(5),
-        Refusal::Long => only(6),
-        Refusal::Full => only(7),
-        Refusal::Sequence => only(8),
-        Refusal::EmptyCommand => only(9),
+        Refusal::Lent => 1,
+        Refusal::Image => 2,
+        Refusal::Table => 3,
+        Refusal::Clock => 4,
+        Refusal::Short => 5,
+        Refusal::Long => 6,
+        Refusal::Full => 7,
+        Refusal::Sequence => 8,
+        Refusal::EmptyCommand => 9,
     }
 }
 
 // What a request says.
-pub fn of_request(o: Outcome) -> Told {
+pub fn of_request(o: Outcome) -> Told
+    ensures { λ r. ⌜ r ≡ requestSays (toldOutcome o) ⌝ }
+{
     match o {
-        Outcome::Refused(r) => refuses(r),
+        Outcome::Refused(r) => only(refusal_number(r)),
         Outcome::Answered(client, length) => answers(client, length),
     }
 }
 
 // What a tick says.
-pub fn of_tick(o: Ticked) -> Told {
+pub fn of_tick(o: Ticked) -> Told
+    ensures { λ r. ⌜ r ≡ tickSays (toldTicked o) ⌝ }
+{
     match o {
-        Ticked::Refused(r) => refuses(r),
+        Ticked::Refused(r) => only(refusal_number(r)),
         Ticked::Nothing => only(255),
         Ticked::Answered(client, length) => answers(client, length),
     }
 }
 
 // What a deadline query says.
-pub fn of_query(o: NextAction) -> Told {
+pub fn of_query(o: NextAction) -> Told
+    ensures { λ r. ⌜ r ≡ querySays (toldNextAction o) ⌝ }
+{
     match o {
-        NextAction::Refused(r) => refuses(r),
+        NextAction::Refused(r) => only(refusal_number(r)),
         NextAction::Nothing => only(255),
         NextAction::At(time) => deadline(time),
     }
