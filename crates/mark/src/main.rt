@@ -13,7 +13,6 @@ use script::LENT_AREA;
 use script::Place;
 use script::Played;
 use script::input;
-ghost use Rattle.script.specs.Within.{Within};
 
 // How far a run is, and the sheet so far.
 struct Run {
@@ -48,10 +47,7 @@ fn turn(
     image: &mut [u8; IMAGE],
     e: Exercise,
     run: Run,
-) -> Run
-    requires { ⌜ Within (run .place) ⌝ }
-    ensures { λ r. ⌜ Within (r .place) ⌝ }
-{
+) -> Run {
     let place = run.place;
     let sheet = run.sheet;
     let bytes = input::unplayed(input, place);
@@ -79,9 +75,7 @@ fn played(
     area: &mut [u8; LENT_AREA],
     image: &mut [u8; IMAGE],
     e: Exercise,
-) -> Run
-    ensures { λ r. ⌜ Within (r .place) ⌝ }
-{
+) -> Run {
     let mut run = Run {
         place: script::begun(),
         sheet: sheet::blank(),
@@ -98,9 +92,7 @@ fn played(
 }
 
 // The end of the sheet, with how the recording ends: whole, in the middle of an item, or with one that is unknown.
-fn end(input: &[u8; INPUT], e: Exercise, run: Run)
-    requires { ⌜ Within (run .place) ⌝ }
-{
+fn end(input: &[u8; INPUT], e: Exercise, run: Run) {
     let place = run.place;
     let sheet = run.sheet;
     let bytes = input::unplayed(input, place);

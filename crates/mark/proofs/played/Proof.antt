@@ -1,11 +1,11 @@
 -- Safe and ends. Assumes nothing.
 use borrow.Author.Needs.{needs}
-use Rattle.script.specs.Within.{Within}
+use Prim.{Unit}
 use Rattle.mark.proofs.played.Statement.{statement}
 use Rattle.mark.proofs.played.Tie as tie
 
 abbrev Inv-loop : tie.InvT-loop
-Inv-loop input₀ area₀ image₀ e run₀ turns₀ input area image run turns = Within (run .place)
+Inv-loop input₀ area₀ image₀ e run₀ turns₀ input area image run turns = Unit
 
 abbrev μ-loop : tie.MeasureT-loop
 μ-loop input₀ area₀ image₀ e run₀ turns₀ input area image run turns = turns
