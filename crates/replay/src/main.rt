@@ -9,7 +9,6 @@ use script::Place;
 use script::Played;
 use script::input;
 ghost use Prim.Native.Nat.{_≤_};
-ghost use Rattle.replay.specs.Within.{Fits};
 
 // The output's buffer, and the most bytes that a call adds to the transcript.
 const OUTPUT: usize = 65536;
@@ -24,8 +23,7 @@ struct Run {
 
 // Writes the output that waits. Where that fails, the run ends with nothing left to play.
 fn flushed(out: &[u8], run: Run) -> Run
-    requires { ⌜ Fits run ⌝ }
-    ensures { λ r. ⌜ Fits r ⌝ }
+    ensures { λ r. ⌜ r .out ≤ 65536 ⌝ }
 {
     let mut place = run.place;
     if io::write_all(libc::STDOUT_FILENO, octets::part(out, 0, run.out)) {
@@ -83,8 +81,8 @@ fn turn(
     out: &mut [u8; OUTPUT],
     run: Run,
 ) -> Run
-    requires { ⌜ Fits run ⌝ }
-    ensures { λ r. ⌜ Fits r ⌝ }
+    requires { ⌜ run .out ≤ 65536 ⌝ }
+    ensures { λ r. ⌜ r .out ≤ 65536 ⌝ }
 {
     if OUTPUT - run.out < ROOM {
         return flushed(out, run);
@@ -115,9 +113,7 @@ fn played(
     area: &mut [u8; LENT_AREA],
     image: &mut [u8; IMAGE],
     out: &mut [u8; OUTPUT],
-) -> Run
-    ensures { λ r. ⌜ Fits r ⌝ }
-{
+) -> Run {
     let mut run = Run {
         place: script::begun(),
         out: 0,
@@ -134,9 +130,7 @@ fn played(
 }
 
 // Writes the end of the transcript. What is not played then begins with an item that is cut short or unknown.
-fn end(out: &[u8; OUTPUT], ended: Run)
-    requires { ⌜ Fits ended ⌝ }
-{
+fn end(out: &[u8; OUTPUT], ended: Run) {
     let run = flushed(out, ended);
     let p = run.place;
     if p.start < p.end {

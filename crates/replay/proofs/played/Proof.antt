@@ -1,11 +1,11 @@
 -- Safe and ends. Assumes nothing.
+use Prim.Native.Nat.{_≤_}
 use borrow.Author.Needs.{needs}
-use Rattle.replay.specs.Within.{Fits}
 use Rattle.replay.proofs.played.Statement.{statement}
 use Rattle.replay.proofs.played.Tie as tie
 
 abbrev Inv-loop : tie.InvT-loop
-Inv-loop input₀ area₀ image₀ out₀ run₀ turns₀ input area image out run turns = Fits run
+Inv-loop input₀ area₀ image₀ out₀ run₀ turns₀ input area image out run turns = run .out ≤ 65536
 
 abbrev μ-loop : tie.MeasureT-loop
 μ-loop input₀ area₀ image₀ out₀ run₀ turns₀ input area image out run turns = turns

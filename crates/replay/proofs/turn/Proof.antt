@@ -1,15 +1,8 @@
--- Safe, and within its buffers: the item was read whole, and there is room for what it puts. Assumes nothing.
+-- Safe, and within the output: there is room for what an item puts. Assumes nothing.
 use borrow.Author.Needs.{needs}
 use native.Mathlib.Omega.{arith}
 use Rattle.replay.proofs.turn.Statement.{statement}
 use Rattle.replay.proofs.turn.Tie as tie
-
-passed-requires : tie.Need-passed-requires
-passed-requires c κs =
-    let d = c .before .before .before .before .before .before .before in
-    let e = d .before .before .before .before .before .before in
-    let b = e .before .before .before .before .before .before .before in
-    (b .pre .0, omega (arith, e .if2 .left, e .before .before .unplayed .ensures), d .play .ensures)
 
 add-t14 : tie.Need-add-t14
 add-t14 c =
@@ -21,7 +14,7 @@ returns-3 : tie.Need-returns-3
 returns-3 c =
     let d = c .before .before in
     let e = d .before .before .before .before .before .before .before .before .before .before .before .before .before .before .before .before .before .before in
-    (c .before .passed .ensures, omega (arith, d .put .ensures, e .if1 .left))
+    omega (arith, d .put .ensures, e .if1 .left)
 
 pub turn-spec : {M : Type 1} → statement M
 turn-spec =
@@ -37,6 +30,6 @@ turn-spec =
     (λ c κs. search needs)
     (λ c κs. search needs)
     (λ c κs. search needs)
-    passed-requires
+    (λ c κs. search needs)
     add-t14
     returns-3)
