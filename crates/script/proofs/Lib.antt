@@ -1,3 +1,4 @@
 pub mod ByKind
 pub mod Buffers
 pub mod Through
+pub mod Runs

@@ -1,0 +1,37 @@
+-- A run plays the bytes that its reads got, one item behind the other: passing an item takes its bytes off the unplayed ones, and a refill puts what it got behind them.
+use Prim.Native.Nat.{ℕ, zero, suc, _+_, _-_, _%_, _^_, _≤_, _<_}
+use native.Mathlib.Omega.{arith}
+use native.Mathlib.Nat.{sub-zero, suc-sub-suc, mod-eq-of-lt}
+use mathlib.Core.Bool.{true}
+use mathlib.Core.Path.{_≡_, refl, sym, ap, _∙_}
+use mathlib.Core.List.{List, [], _∷_, _++_, append-assoc}
+use lib.ListN.{length, take, drop, length-append}
+use lib.Seq.{take-nil, take-at, drop-drop}
+use Rattle.picks.specs.Pick.{pick}
+use Rattle.script.specs.declared.Place.{Place}
+use Rattle.script.specs.declared.Played.{Played}
+use Rattle.script.specs.Places.{unplayedOf, behind, Refilled}
+
+-- a part without its first bytes
+drop-take : (n m : ℕ) (xs : List ℕ) → drop n (take m xs) ≡ take (m - n) (drop n xs)
+drop-take zero m xs = rw (sub-zero m)
+drop-take (suc n) zero xs = let e : 0 - suc n ≡ 0 = omega arith in rw e
+drop-take (suc n) (suc m) [] = sym (take-nil (suc m - suc n))
+drop-take (suc n) (suc m) (x ∷ xs) = rw (suc-sub-suc m n) (drop-take n m xs)
+
+-- an item of n bytes, of those that are unplayed
+pub passed-drops : (input : List ℕ) (p : Place) (n : ℕ) (done : Played) → done .known ≡ true → p .start + n ≤ p .end → p .end < 2 ^ 64 → unplayedOf input (behind p n done) ≡ drop n (unplayedOf input p)
+unfolding unplayedOf behind pick
+passed-drops input p n done known whole short =
+    let start : (p .start + n) % 2 ^ 64 ≡ p .start + n = mod-eq-of-lt (omega (arith, whole, short)) in
+    let size : p .end - (p .start + n) ≡ p .end - p .start - n = omega arith in
+    rw (known, start, size, ← drop-drop n (p .start) input) (sym (drop-take n (p .end - p .start) (drop (p .start) input)))
+
+-- a refill
+pub refill-adds : (input after : List ℕ) (p r : Place) (f : Refilled input p after r) → unplayedOf after r ≡ unplayedOf input p ++ f .got
+unfolding unplayedOf
+refill-adds input after p r f =
+    let u = unplayedOf input p in
+    let g = f .got in
+    let bytes : after ≡ u ++ g ++ f .past = f .bytes ∙ sym (append-assoc u g (f .past)) in
+    rw (f .place, bytes, sub-zero (length u + length g)) (take-at (u ++ g) (f .past) (length u + length g) (length-append u g))
