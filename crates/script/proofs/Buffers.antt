@@ -12,7 +12,7 @@ use Rattle.octets.proofs.Splice.{take-clamped, splice-fits}
 use Rattle.script.specs.declared.Place.{Place}
 use Rattle.script.specs.Items.{areaBytes}
 use Rattle.script.specs.Playing.{lentArea, blank}
-use Rattle.script.specs.Places.{unplayedOf, Refilled}
+use Rattle.script.specs.Places.{unplayedOf, Read, refilledBytes, refilledPlace}
 
 -- what is behind a front that is cut to the buffer's length
 pub drop-clamped : (n : ℕ) (xs : List ℕ) → drop (min n (length xs)) xs ≡ drop n xs
@@ -73,8 +73,8 @@ pub front-kept : (n : ℕ) (xs ys : List ℕ) → n ≤ length xs → take n (ta
 front-kept n xs ys h = take-at (take n xs) ys n (length-take-le n xs h)
 
 -- a read behind what is moved to the front
-pub refill : (input moved after : List ℕ) (p r : Place) (n got : ℕ) → n ≡ length (unplayedOf input p) → moved ≡ take n (drop (p .start) input) ++ drop n input → n + got ≤ length after → take n after ≡ take n moved → r ≡ record { start = 0; end = n + got; at = p .at; going = ltb 0 got; lent = p .lent } → Refilled input p after r
-unfolding unplayedOf
+pub refill : (input moved after : List ℕ) (p r : Place) (n got : ℕ) → n ≡ length (unplayedOf input p) → moved ≡ take n (drop (p .start) input) ++ drop n input → n + got ≤ length after → take n after ≡ take n moved → r ≡ record { start = 0; end = n + got; at = p .at; going = ltb 0 got; lent = p .lent } → (f : Read) × (after ≡ refilledBytes f input p) × (r ≡ refilledPlace f input p)
+unfolding unplayedOf refilledBytes refilledPlace
 refill input moved after p r n got en em fits kept er =
     let m = p .end - p .start in
     let ys = drop (p .start) input in
@@ -82,10 +82,8 @@ refill input moved after p r n got en em fits kept er =
     let long : length (take n ys) ≡ n = rw front (sym en) in
     let moves : take n moved ≡ take m ys = rw em (take-at (take n ys) (drop n input) n long) ∙ front in
     let g = take got (drop n after) in
-    let lg : length g ≡ got = length-take-le got (drop n after) (rw length-drop (omega arith)) in
-    record {
-      got = g;
-      past = drop got (drop n after);
-      bytes = sym (ap (λ (xs : List ℕ). xs ++ (g ++ drop got (drop n after))) (sym moves ∙ sym kept) ∙ ap (λ (xs : List ℕ). take n after ++ xs) (take-append-drop got (drop n after)) ∙ take-append-drop n after);
-      place = rw (lg, ← en) er;
-    }
+    let lg : length g ≡ got = length-take-le got (drop n after) (rw length-drop (omega arith)) in (
+      record { got = g; past = drop got (drop n after) },
+      sym (ap (λ (xs : List ℕ). xs ++ (g ++ drop got (drop n after))) (sym moves ∙ sym kept) ∙ ap (λ (xs : List ℕ). take n after ++ xs) (take-append-drop got (drop n after)) ∙ take-append-drop n after),
+      rw (lg, ← en) er,
+    )

@@ -3,14 +3,14 @@ use Prim.Native.Nat.{ℕ, zero, suc, _+_, _-_, _%_, _^_, _≤_, _<_}
 use native.Mathlib.Omega.{arith}
 use native.Mathlib.Nat.{sub-zero, suc-sub-suc, mod-eq-of-lt}
 use mathlib.Core.Bool.{true}
-use mathlib.Core.Path.{_≡_, refl, sym, ap, _∙_}
+use mathlib.Core.Path.{_≡_, sym}
 use mathlib.Core.List.{List, [], _∷_, _++_, append-assoc}
 use lib.ListN.{length, take, drop, length-append}
 use lib.Seq.{take-nil, take-at, drop-drop}
 use Rattle.picks.specs.Pick.{pick}
 use Rattle.script.specs.declared.Place.{Place}
 use Rattle.script.specs.declared.Played.{Played}
-use Rattle.script.specs.Places.{unplayedOf, behind, Refilled}
+use Rattle.script.specs.Places.{unplayedOf, behind, Read, refilledBytes, refilledPlace}
 
 -- a part without its first bytes
 drop-take : (n m : ℕ) (xs : List ℕ) → drop n (take m xs) ≡ take (m - n) (drop n xs)
@@ -28,10 +28,9 @@ passed-drops input p n done known whole short =
     rw (known, start, size, ← drop-drop n (p .start) input) (sym (drop-take n (p .end - p .start) (drop (p .start) input)))
 
 -- a refill
-pub refill-adds : (input after : List ℕ) (p r : Place) (f : Refilled input p after r) → unplayedOf after r ≡ unplayedOf input p ++ f .got
-unfolding unplayedOf
-refill-adds input after p r f =
+pub refill-adds : (f : Read) (input : List ℕ) (p : Place) → unplayedOf (refilledBytes f input p) (refilledPlace f input p) ≡ unplayedOf input p ++ f .got
+unfolding unplayedOf refilledBytes refilledPlace
+refill-adds f input p =
     let u = unplayedOf input p in
     let g = f .got in
-    let bytes : after ≡ u ++ g ++ f .past = f .bytes ∙ sym (append-assoc u g (f .past)) in
-    rw (f .place, bytes, sub-zero (length u + length g)) (take-at (u ++ g) (f .past) (length u + length g) (length-append u g))
+    rw (sub-zero (length u + length g), ← append-assoc u g (f .past)) (take-at (u ++ g) (f .past) (length u + length g) (length-append u g))

@@ -1,7 +1,6 @@
 -- How far a run is. "The script ends at the end of the file. An item that is cut short, has another number, … ends the run: a line … names the byte at which the item begins (the first is 0)".
 use Prim.Native.Nat.{ℕ, _+_, _-_, _%_, _^_}
 use mathlib.Core.Bool.{true, false}
-use mathlib.Core.Path.{_≡_}
 use mathlib.Core.List.{List, _++_}
 use lib.ListN.{length, take, drop}
 use lib.Dec.{ltb}
@@ -26,9 +25,15 @@ behind p n done =
     (record { start = (p .start + n) % 2 ^ 64; end = p .end; at = (p .at + n) % 2 ^ 64; going = p .going; lent = done .lent })
     (record { start = p .start; end = p .end; at = p .at; going = false; lent = p .lent })
 
--- a read of the input: what it got is free, and so is what stands in the buffer past it. The unplayed bytes are at the front, what the read got is behind them, and the run goes on if that is any.
-pub record Refilled (input : List ℕ) (p : Place) (after : List ℕ) (r : Place) : Type 0 where
+-- a read of the input: the bytes that it got, and what stands in the buffer past them. Both are free: no contract says what a read brings.
+pub record Read : Type 0 where
   pub got : List ℕ
   pub past : List ℕ
-  pub bytes : after ≡ unplayedOf input p ++ (got ++ past)
-  pub place : r ≡ record { start = 0; end = length (unplayedOf input p) + length got; at = p .at; going = ltb 0 (length got); lent = p .lent }
+
+-- after it the unplayed bytes stand at the front, and what the read got behind them; the run goes on if that is any
+unfoldable pub refilledBytes : Read → List ℕ → Place → List ℕ
+refilledBytes f input p = unplayedOf input p ++ (f .got ++ f .past)
+
+unfoldable pub refilledPlace : Read → List ℕ → Place → Place
+refilledPlace f input p =
+    record { start = 0; end = length (unplayedOf input p) + length (f .got); at = p .at; going = ltb 0 (length (f .got)); lent = p .lent }

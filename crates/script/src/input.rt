@@ -5,7 +5,7 @@ ghost use mathlib.Core.Path.{_≡_};
 ghost use mathlib.Core.List.{_++_};
 ghost use Prim.Native.Nat.{_+_, _-_, _≤_};
 ghost use lib.ListN.{length, take, drop};
-ghost use Rattle.script.specs.Places.{unplayedOf, Refilled};
+ghost use Rattle.script.specs.Places.{unplayedOf, Read, refilledBytes, refilledPlace};
 
 // How many bytes there are from a place to another; none where that is before it.
 fn between(start: usize, end: usize) -> usize
@@ -43,9 +43,9 @@ fn move_to_front(input: &mut [u8], start: usize, n: usize)
     }
 }
 
-// Moves what is not played yet to the front of the input buffer and reads once behind it.
+// Moves what is not played yet to the front of the input buffer and reads once behind it. The run goes on if the read got anything.
 pub fn refilled(input: &mut [u8; INPUT], mut p: Place) -> Place
-    ensures { λ r. ⌜ Refilled (now (input .entry)) p (now (input .exit)) r ⌝ }
+    ensures { λ r. ⌜ ((f : Read) × (now (input .exit) ≡ refilledBytes f (now (input .entry)) p) × (r ≡ refilledPlace f (now (input .entry)) p)) ⌝ }
 {
     let n = unplayed(input, p).len();
     move_to_front(input, p.start, n);
