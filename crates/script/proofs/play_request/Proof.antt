@@ -12,7 +12,7 @@ unfolding requestPlayed
 returns c =
     let e = c .before .before .before .before .ready .ensures in
     let f = c .before .before .before .before .before .before .before .before .is-client .ensures ∙ ap isClient (c .before .before .before .before .before .before .before .before .before .rest .ensures) in
-    pick-t _ _ _ _ (flag f (c .before .before .before .before .before .before .before .if1 .taken)) (c .call-request .ensures ∙ rw (e .0, e .1))
+    pick-t _ _ _ _ (flag f (c .before .before .before .before .before .before .before .if1 .taken)) (rw (e .0, e .1) at (c .call-request .ensures))
 
 returns-2 : tie.Need-returns-2
 unfolding requestPlayed
