@@ -1,5 +1,5 @@
 -- A request that passed the tests, on the table's bytes: what its parts give together is what the definitions leave.
-use Prim.Native.Nat.{ℕ, _+_, _*_, _≤_, _<_}
+use Prim.Native.Nat.{ℕ, _+_, _*_, _<_}
 use native.Mathlib.Omega.{arith}
 use mathlib.Core.Path.{_≡_, refl, sym, ap, _∙_}
 use mathlib.Core.Bool.{Bool, true, false, _&&_}
@@ -17,7 +17,7 @@ use Rattle.protocol.specs.declared.SdoResponseData.{SdoResponseData}
 use Rattle.protocol.specs.declared.Handled.{Handled}
 use Rattle.protocol.specs.declared.Handled.the-variants as H
 use Rattle.protocol.specs.Constants.{SHARE}
-use Rattle.protocol.specs.Coding.{refused, refusalNumber}
+use Rattle.protocol.specs.Coding.{refusalNumber}
 use Rattle.protocol.specs.ConnectionRecord.{Served, serve, toldHandled, toldReply}
 use Rattle.protocol.specs.ConnectionTable.{recordOf, holds, isClosed, soundTable, update, release, shareOf, withShare}
 use Rattle.protocol.specs.Calls.{To, Called, frame}
@@ -30,7 +30,7 @@ use Rattle.server.proofs.Calls.{share-inside, accepted-is, stored-is}
 use Rattle.record.specs.Format.{tableBytes, tableOf}
 use Rattle.export.specs.declared.SdoAnswer.{SdoAnswer}
 use Rattle.export.specs.declared.Seat.{Seat}
-use Rattle.export.specs.Exported.{only, answersTo, requestAnswer, tableLeft, Left, left, leftBy}
+use Rattle.export.specs.Exported.{only, answersTo, requestAnswer, tableLeft, left, leftBy}
 use Rattle.export.specs.Seats.{seatIn, backRow, settledIn, Admitted}
 use Rattle.export.proofs.Seats.{seat-own, seat-back, seat-dropped}
 

@@ -1,19 +1,18 @@
 -- A tick that finds nobody due and no Closed record leaves the records as they are.
 use Prim.Native.Nat.{ℕ, _≤_, _<_}
-use native.Mathlib.Omega.{arith}
 use mathlib.Core.Path.{_≡_, refl, sym, ap, _∙_}
 use mathlib.Core.Bool.{Bool, true, false, _&&_, not}
 use mathlib.Core.List.{List}
 use lib.ListN.{length, getD, List·getD-eq-default}
 use lib.Dec.{ltb}
-use borrow.Author.Tests.{ltb-true, ltb-false, not-false}
+use borrow.Author.Tests.{ltb-true, ltb-false}
 use Rattle.picks.specs.Pick.{pick, every, first}
 use Rattle.picks.proofs.Keep.{by-test, not-both, of-both, every-at, every-follows, first-at}
 use Rattle.protocol.specs.declared.Connection.{Connection}
 use Rattle.protocol.specs.Coding.{value}
 use Rattle.protocol.specs.ConnectionTable.{fresh, isClosed, isDue, chosen, soundTable, release, tickIn, tickRecord, shareOf}
 use Rattle.protocol.specs.Calls.{Called, accept, verdict}
-use Rattle.protocol.specs.Tick.{Told, nobody, tickTests, tickTold, tickAt, ticked, onTickVerdict, tickOf}
+use Rattle.protocol.specs.Tick.{Told, nobody, tickTests, tickTold, ticked, onTickVerdict, tickOf}
 use Rattle.record.specs.Format.{tableBytes, tableOf}
 use Rattle.table.specs.Row.{isGone}
 use Rattle.table.proofs.Release.{release-none, gone-used}

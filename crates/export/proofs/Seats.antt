@@ -2,7 +2,7 @@
 use Prim.Native.Nat.{ℕ, suc, _+_, _-_, _≤_, _<_}
 use native.Mathlib.Omega.{arith}
 use mathlib.Core.Path.{_≡_, refl, sym, ap, _∙_}
-use mathlib.Core.Bool.{Bool, true, false, _&&_, not}
+use mathlib.Core.Bool.{true, false}
 use mathlib.Core.List.{List, [], _∷_, _++_, append-assoc}
 use lib.ListN.{length, getD, take, drop, set, length-set}
 use lib.Dec.{ltb, eqb}
@@ -14,16 +14,16 @@ use Rattle.picks.proofs.Keep.{by-test, both, first-set, first-kept, first-there
 use Rattle.protocol.specs.declared.SdoClientInfo.{SdoClientInfo}
 use Rattle.protocol.specs.declared.Connection.{Connection}
 use Rattle.protocol.specs.Constants.{RECORDS}
-use Rattle.protocol.specs.ConnectionTable.{fresh, isUnused, unusedOf, joining, isClosed, soundTable, holds, placeOf, recordOf, isKnown, update, join, release}
+use Rattle.protocol.specs.ConnectionTable.{fresh, isUnused, unusedOf, joining, soundTable, holds, placeOf, recordOf, isKnown, update, release}
 use Rattle.protocol.specs.Request.{seated}
 use Rattle.protocol.proofs.ConnectionTable.{known-place, known-holds, place-unique, join-own, join-sound, join-length, same-client-refl}
 use Rattle.protocol.proofs.Requests.{Accepted, seat-of}
-use Rattle.table.specs.Row.{unusedPlace, seatPlace, putIn, joinedRow, droppedAt}
+use Rattle.table.specs.Row.{unusedPlace, seatPlace, putIn, droppedAt}
 use Rattle.table.proofs.Moves.{seat-before, joined-made}
 use Rattle.table.proofs.Release.{dropped-in, dropped-made}
 use Rattle.table.proofs.Sound.{sound-join, sound-release}
 use Rattle.export.specs.declared.Seat.{Seat}
-use Rattle.export.specs.Seats.{seatIn, backRow, settledIn}
+use Rattle.export.specs.Seats.{seatIn, backRow}
 
 -- a record that was put in
 module _ (t : List Connection) (at n : ℕ) (c : Connection) (h : at ≤ n) (l : n < length t) where

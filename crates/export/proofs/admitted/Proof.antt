@@ -1,7 +1,7 @@
 -- The three tests of the request, then the call.
 use Rattle.export.proofs.Testing.{refused-early, frame-verdict, full-is}
 use Rattle.protocol.specs.Calls.{toldChecked}
-use Rattle.protocol.specs.Request.{requestTests, onVerdict, requestOf}
+use Rattle.protocol.specs.Request.{onVerdict, requestOf}
 use Rattle.export.specs.Exported.{only, requestAnswer, leftBy}
 use Rattle.record.specs.Format.{tableOf}
 use Rattle.record.proofs.Ranges.{length-tableOf}

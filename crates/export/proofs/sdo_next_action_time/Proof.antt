@@ -1,5 +1,5 @@
 -- Refused by the length, or the earliest deadline of the bytes.
-use Rattle.export.specs.Exported.{queryAnswer, queryBytes}
+use Rattle.export.specs.Exported.{queryBytes}
 use Rattle.export.proofs.Through.{query-sound-bytes, query-unsound-bytes}
 use Rattle.record.proofs.Writing.{splice-whole}
 use lib.ListN.{replicate}

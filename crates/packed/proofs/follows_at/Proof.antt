@@ -1,9 +1,9 @@
 -- By whether the two are used.
 use Rattle.packed.specs.Packed.{at}
-use Rattle.protocol.specs.ConnectionTable.{before, isFresh}
+use Rattle.protocol.specs.ConnectionTable.{before}
 use Rattle.picks.proofs.Picks.{flag, pick-t, pick-f, at-case}
 use mathlib.Core.Path.{refl}
-use mathlib.Core.Bool.{not, _||_, _&&_}
+use mathlib.Core.Bool.{not, _||_}
 use Prim.Native.Nat.{_+_}
 use borrow.Author.Needs.{needs}
 use Rattle.packed.proofs.follows_at.Statement.{statement}

@@ -6,7 +6,7 @@ use Rattle.packed.proofs.Bytes.{eight, record-there}
 use Rattle.picks.proofs.Picks.{flag}
 use Rattle.table.proofs.Walk.{every-more, every-not, every-end}
 use Rattle.picks.specs.Pick.{every}
-use lib.ListN.{length, drop}
+use lib.ListN.{drop}
 use mathlib.Core.Path.{_≡_, ap, _∙_}
 use Prim.Native.Nat.{_-_, _≤_}
 use borrow.Author.Needs.{needs}

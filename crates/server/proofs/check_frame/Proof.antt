@@ -4,7 +4,6 @@ use Rattle.protocol.specs.Constants.{REQUEST-MAX}
 use mathlib.Core.Path.{refl}
 use borrow.Author.Tests.{lt-ltb, le-ltb}
 use Rattle.picks.proofs.Picks.{pick-t, pick-f}
-use borrow.Author.Needs.{needs}
 use Rattle.server.proofs.check_frame.Statement.{statement}
 use Rattle.server.proofs.check_frame.Tie as tie
 
