@@ -1,5 +1,30 @@
 // Texts, numbers and bytes on standard output, and the parts of a text. Bytes are in hex, with a blank before each.
-ghost use Prim.Native.Nat.{_<_};
+ghost use Prim.Native.Nat.{_<_, _≤_, min};
+ghost use mathlib.Core.Path.{_≡_};
+ghost use lib.ListN.{length, drop};
+ghost use lib.Dec.{eqb};
+ghost use mathlib.Core.List.{_++_};
+ghost use Rattle.picks.specs.Pick.{first};
+ghost use Rattle.show.specs.Text.{pageAt, laid, letters, digitOf, hexText, decimalText, bytesText, moreText, startText, untilMark, behindMark, lineOf};
+
+// The lesser of two numbers.
+fn least(a: usize, b: usize) -> usize
+    ensures { λ r. ⌜ r ≡ min a b ⌝ }
+{
+    if a <= b { a } else { b }
+}
+
+// A text goes to a page from a place on, as far as the page goes; answers the place behind it.
+pub fn put(page: &mut [u8], at: usize, text: &[u8]) -> usize
+    ensures { λ r. ⌜ pageAt r (now (page .exit)) ≡ laid (pageAt at (now (page .entry))) (now (text .entry)) ⌝ }
+{
+    if page.len() <= at {
+        return at;
+    }
+    let n = least(text.len(), page.len() - at);
+    octets::copy_at(page, at, text);
+    at + n
+}
 
 pub fn say(text: &[u8]) {
     io::write_all(libc::STDOUT_FILENO, text);
@@ -9,19 +34,100 @@ pub fn say_number(n: u64) {
     io::print_decimal(libc::STDOUT_FILENO, n);
 }
 
-fn digit(n: u8) -> u8
+// A digit, 0 to 9 and then A to F.
+fn digit(n: u64) -> u8
     requires { ⌜ n < 16 ⌝ }
+    ensures { λ r. ⌜ r ≡ digitOf n ⌝ }
 {
-    if n < 10 { b'0' + n } else { b'A' - 10 + n }
+    if n < 10 {
+        return b'0' + n as u8;
+    }
+    b'A' - 10 + n as u8
+}
+
+// The lowest byte of a number, in hex.
+pub fn put_hex(page: &mut [u8], at: usize, n: u64) -> usize
+    ensures { λ r. ⌜ pageAt r (now (page .exit)) ≡ laid (pageAt at (now (page .entry))) (hexText n) ⌝ }
+{
+    put(page, at, &[digit(n / 16 % 16), digit(n % 16)])
+}
+
+// The digits of a number go to the end of a text; answers where they begin.
+fn decimal(n: u64, text: &mut [u8]) -> usize
+    requires { ⌜ length (now text) ≡ 20 ⌝ }
+    ensures { λ r. ⌜ drop r (now (text .exit)) ≡ decimalText n ⌝ }
+{
+    let mut i = 20;
+    let mut rest = n;
+    while i > 0 {
+        i -= 1;
+        text[i] = b'0' + (rest % 10) as u8;
+        if rest < 10 {
+            return i;
+        }
+        rest /= 10;
+    }
+    i
+}
+
+// A number in decimal.
+pub fn put_number(page: &mut [u8], at: usize, n: u64) -> usize
+    ensures { λ r. ⌜ pageAt r (now (page .exit)) ≡ laid (pageAt at (now (page .entry))) (decimalText n) ⌝ }
+{
+    let mut text = [0; 20];
+    let i = decimal(n, &mut text);
+    put(page, at, octets::rest(&text, i))
+}
+
+// A byte in hex, with a blank before it.
+fn put_byte(page: &mut [u8], at: usize, b: u8) -> usize
+    ensures { λ r. ⌜ pageAt r (now (page .exit)) ≡ laid (pageAt at (now (page .entry))) (letters " " ++ hexText b) ⌝ }
+{
+    let at = put(page, at, b" ");
+    put_hex(page, at, b as u64)
+}
+
+// Bytes in hex, with a blank before each.
+pub fn put_bytes(page: &mut [u8], at: usize, bytes: &[u8]) -> usize
+    ensures { λ r. ⌜ pageAt r (now (page .exit)) ≡ laid (pageAt at (now (page .entry))) (bytesText (now (bytes .entry))) ⌝ }
+{
+    let mut end = at;
+    let mut i = 0;
+    while i < bytes.len() {
+        end = put_byte(page, end, bytes[i]);
+        i += 1;
+    }
+    end
+}
+
+// How many bytes follow those that are shown.
+fn put_more(page: &mut [u8], at: usize, n: usize) -> usize
+    ensures { λ r. ⌜ pageAt r (now (page .exit)) ≡ laid (pageAt at (now (page .entry))) (moreText n) ⌝ }
+{
+    let at = put(page, at, b" and ");
+    let at = put_number(page, at, n as u64);
+    put(page, at, b" more")
+}
+
+// The first bytes, and how many follow.
+pub fn put_start(page: &mut [u8], at: usize, bytes: &[u8], shown: usize) -> usize
+    ensures { λ r. ⌜ pageAt r (now (page .exit)) ≡ laid (pageAt at (now (page .entry))) (startText (now (bytes .entry)) shown) ⌝ }
+{
+    let at = put_bytes(page, at, octets::part(bytes, 0, shown));
+    if shown < bytes.len() {
+        return put_more(page, at, bytes.len() - shown);
+    }
+    at
 }
 
 // A byte's two digits.
 pub fn say_hex(b: u8) {
-    say(&[digit(b / 16), digit(b % 16)]);
+    say(&[digit((b / 16) as u64), digit((b % 16) as u64)]);
 }
 
 fn say_byte(b: u8) {
-    say(&[b' ', digit(b / 16), digit(b % 16)]);
+    say(b" ");
+    say_hex(b);
 }
 
 pub fn say_bytes(bytes: &[u8]) {
@@ -43,10 +149,13 @@ pub fn say_start(bytes: &[u8], shown: usize) {
 }
 
 // Where a mark first stands in a text: its length where it does not.
-fn find(text: &[u8], mark: u8) -> usize {
+fn find(text: &[u8], mark: u8) -> usize
+    ensures { λ r. ⌜ r ≡ first (λ x. eqb x mark) (now (text .entry)) ⌝ }
+    ensures { λ r. ⌜ r ≤ length (now (text .entry)) ⌝ }
+{
     let mut i = 0;
     while i < text.len() {
-        if octets::byte_at(text, i) == mark {
+        if text[i] == mark {
             return i;
         }
         i += 1;
@@ -55,22 +164,36 @@ fn find(text: &[u8], mark: u8) -> usize {
 }
 
 // What stands before the first such mark.
-pub fn before(text: &[u8], mark: u8) -> &[u8] {
+pub fn before(text: &[u8], mark: u8) -> &[u8]
+    ensures { λ r. ⌜ now r ≡ untilMark mark (now (text .entry)) ⌝ }
+{
     octets::part(text, 0, find(text, mark))
 }
 
 // What stands behind the first such mark.
-pub fn behind(text: &[u8], mark: u8) -> &[u8] {
-    octets::rest(text, std::num::wrapping_add_usize(find(text, mark), 1))
+pub fn behind(text: &[u8], mark: u8) -> &[u8]
+    ensures { λ r. ⌜ now r ≡ behindMark mark (now (text .entry)) ⌝ }
+{
+    octets::rest(text, find(text, mark) + 1)
+}
+
+// Where the line behind the one at a place begins.
+fn next_line(text: &[u8], at: usize) -> usize
+    requires { ⌜ at ≤ length (now text) ⌝ }
+    ensures { λ r. ⌜ r ≤ length (now (text .entry)) ⌝ }
+    ensures { λ r. ⌜ drop r (now (text .entry)) ≡ behindMark 10 (drop at (now (text .entry))) ⌝ }
+{
+    text.len() - behind(octets::rest(text, at), b'\n').len()
 }
 
 // The line of a text with this number, from 0.
-pub fn line(text: &[u8], n: u8) -> &[u8] {
-    let mut at: usize = 0;
+pub fn line(text: &[u8], n: u8) -> &[u8]
+    ensures { λ r. ⌜ now r ≡ lineOf n (now (text .entry)) ⌝ }
+{
+    let mut at = 0;
     let mut left = n;
     while left > 0 {
-        at = std::num::wrapping_add_usize(at, find(octets::rest(text, at), b'\n'));
-        at = std::num::wrapping_add_usize(at, 1);
+        at = next_line(text, at);
         left -= 1;
     }
     before(octets::rest(text, at), b'\n')
