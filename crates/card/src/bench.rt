@@ -1,4 +1,5 @@
 // Calls of the server, each printed with what was given, what came out and what it left. A call is right when the whole answer buffer, the answer's length, the refusal, the records in use and the image are as they should be.
+use crate::print;
 use crate::rows;
 use crate::rows::Score;
 use protocol::Connection;
@@ -159,13 +160,13 @@ fn left_in(t: [Connection; 8]) -> u8 {
 
 fn say_left(left: u8) {
     match left {
-        0 => show::say(b"; no record in use\n"),
-        1 => show::say(b"; Opening\n"),
-        2 => show::say(b"; Established\n"),
-        3 => show::say(b"; upload\n"),
-        4 => show::say(b"; download\n"),
-        5 => show::say(b"; Closed\n"),
-        _ => show::say(b"; more than one record in use\n"),
+        0 => print::say(b"; no record in use\n"),
+        1 => print::say(b"; Opening\n"),
+        2 => print::say(b"; Established\n"),
+        3 => print::say(b"; upload\n"),
+        4 => print::say(b"; download\n"),
+        5 => print::say(b"; Closed\n"),
+        _ => print::say(b"; more than one record in use\n"),
     }
 }
 
@@ -239,42 +240,42 @@ fn is_right(came: Came, answer: &[u8], image: &[u8], head: &[u8], object: &[u8],
 }
 
 fn say_given(bytes: &[u8]) {
-    show::say(b"\n            given ");
-    show::say_start(bytes, 24);
-    show::say(b"\n");
+    print::say(b"\n            given ");
+    print::say_start(bytes, 24);
+    print::say(b"\n");
 }
 
 fn say_clock(clock: u64) {
-    show::say(b"an upload due at 1000000 without retries\n            given  a tick at ");
-    io::print_decimal(libc::STDOUT_FILENO, clock);
-    show::say(b"\n");
+    print::say(b"an upload due at 1000000 without retries\n            given  a tick at ");
+    print::say_number(clock);
+    print::say(b"\n");
 }
 
 // What came of a call, in words.
 fn say_came(came: Came, answer: &[u8]) {
-    show::say(b"            came  ");
-    show::say_start(octets::part(answer, 0, came.len), 16);
+    print::say(b"            came  ");
+    print::say_start(octets::part(answer, 0, came.len), 16);
     if came.refused > 0 {
-        show::say(b" refused with ");
-        show::say_number(came.refused as u64);
+        print::say(b" refused with ");
+        print::say_number(came.refused as u64);
     } else if came.len == 0 {
-        show::say(b" nothing");
+        print::say(b" nothing");
     }
     say_left(came.left);
 }
 
 // What was due, where something else came.
 fn say_due(head: &[u8], due: Due) {
-    show::say(b"            due   ");
-    show::say(head);
+    print::say(b"            due   ");
+    print::say(head);
     if due.size > 0 {
-        show::say(b" and ");
-        show::say_number(due.size as u64);
-        show::say(b" bytes of the object");
+        print::say(b" and ");
+        print::say_number(due.size as u64);
+        print::say(b" bytes of the object");
     }
     if due.refused > 0 {
-        show::say(b" refused with ");
-        show::say_number(due.refused as u64);
+        print::say(b" refused with ");
+        print::say_number(due.refused as u64);
     }
     say_left(due.left);
 }
@@ -306,7 +307,7 @@ pub fn asks(
     let came = requested(outcome, after);
     let same = is_right(came, &answer, image, head, object, due);
     let score = rows::verdict(b.score, same);
-    show::say(what);
+    print::say(what);
     say_given(bytes);
     say_outcome(came, &answer, same, head, due);
     Bench {

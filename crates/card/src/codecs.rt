@@ -1,4 +1,5 @@
 // Rows that a codec decides.
+use crate::print;
 use crate::rows;
 use crate::rows::Score;
 use protocol::CommandId;
@@ -156,8 +157,8 @@ fn line_row(s: Score, line: &[u8]) -> Score {
         b'C' => command_read_row(s, what, given, expected),
         b'I' => id_row(s, what, given, expected),
         _ => {
-            show::say(line);
-            show::say(b"\n");
+            print::say(line);
+            print::say(b"\n");
             s
         }
     }

@@ -2,6 +2,7 @@
 mod bench;
 mod calls;
 mod codecs;
+mod print;
 mod rows;
 mod tables;
 
@@ -28,21 +29,21 @@ H header numbers 63, 0, marks 2, 0| 3F 00 02 00| FE 00 00 00";
 }
 
 fn call_rows(s: Score) -> Score {
-    show::say(b"Bench card: the rows that are calls. The whole answer buffer is compared,\n");
-    show::say(b"with the records in use and the image; long frames are printed in part.\n");
+    print::say(b"Bench card: the rows that are calls. The whole answer buffer is compared,\n");
+    print::say(b"with the records in use and the image; long frames are printed in part.\n");
     calls::length_rows(calls::transfer_rows(calls::reading_rows(s)))
 }
 
 fn table_rows(s: Score) -> Score {
-    show::say(b"DS 301: the tables that the Rust cites, as far as it follows them.\n");
+    print::say(b"DS 301: the tables that the Rust cites, as far as it follows them.\n");
     tables::write_row(tables::read_rows(tables::layout_rows(s)))
 }
 
 fn main() {
     let s = codec_rows(Score { rows: 0, differ: 0 });
     let s = table_rows(call_rows(s));
-    io::print_decimal(libc::STDOUT_FILENO, s.rows);
-    show::say(b" rows, ");
-    io::print_decimal(libc::STDOUT_FILENO, s.differ);
-    show::say(b" differ\n");
+    print::say_number(s.rows);
+    print::say(b" rows, ");
+    print::say_number(s.differ);
+    print::say(b" differ\n");
 }

@@ -1,4 +1,5 @@
 // The card's rows. A text of bytes is as on the card, with a blank before each byte. Rows stand in lines, their fields parted by bars.
+use crate::print;
 ghost use Prim.Native.Nat.{_<_};
 
 // How many rows were played, and how many of them differ from the card.
@@ -30,9 +31,9 @@ pub fn read(text: &[u8], bytes: &mut [u8]) -> usize {
 // Counts a row and begins its line.
 pub fn verdict(mut s: Score, same: bool) -> Score {
     if same {
-        show::say(b"ok      ");
+        print::say(b"ok      ");
     } else {
-        show::say(b"DIFFERS ");
+        print::say(b"DIFFERS ");
         s.differ = std::num::wrapping_add_u64(s.differ, 1);
     }
     s.rows = std::num::wrapping_add_u64(s.rows, 1);
@@ -46,14 +47,14 @@ pub fn row(s: Score, what: &[u8], given: &[u8], came: &[u8], expected: &[u8]) ->
     let n = read(expected, &mut space);
     let same = check::same(came, octets::part(&space, 0, n));
     let next = verdict(s, same);
-    show::say(what);
-    show::say(given);
-    show::say(octets::rest(octets::rest(blanks, what.len()), given.len()));
-    show::say_bytes(came);
+    print::say(what);
+    print::say(given);
+    print::say(octets::rest(octets::rest(blanks, what.len()), given.len()));
+    print::say_bytes(came);
     if !same {
-        show::say(b"  expected");
-        show::say(expected);
+        print::say(b"  expected");
+        print::say(expected);
     }
-    show::say(b"\n");
+    print::say(b"\n");
     next
 }

@@ -1,5 +1,6 @@
 // Plays a recording from standard input through the server and prints the marked sheet of an exercise: each step in words, and the mark. oracle/REPLAY.md has the recording's format.
 mod exercise;
+mod print;
 mod sheet;
 mod verdict;
 
@@ -111,11 +112,11 @@ fn end(input: &[u8; INPUT], e: Exercise, run: Run) {
 }
 
 fn say_title(e: Exercise) {
-    show::say(b"MARKED SHEET\nExercise: read ");
-    wording::say_object(e.index, e.sub);
-    show::say(b", to its end: ");
-    show::say_number(e.length as u64);
-    show::say(
+    print::say(b"MARKED SHEET\nExercise: read ");
+    print::say_object(e.index, e.sub);
+    print::say(b", to its end: ");
+    print::say_number(e.length as u64);
+    print::say(
         b" bytes.
 Each step is what a client sent and what the controller answered: in words, decoded, and as bytes in hex.
 

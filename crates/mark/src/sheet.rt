@@ -1,4 +1,5 @@
 // The sheet: each call of a recording as a step, and what the steps come to.
+use crate::print;
 use marking::Book;
 use marking::Event;
 use marking::Exercise;
@@ -9,7 +10,6 @@ use reading::Reading;
 use reading::frame;
 use reading::frame::Frame;
 use script::Played;
-use wording::steps;
 
 // A finished reading of the exercise's object.
 pub struct Finish {
@@ -103,9 +103,9 @@ fn answered(
     let event = noted.event;
     let a = frame::read(answer);
     s.book = book;
-    show::say(b"  answer:  ");
-    steps::say_answer(frame::read(request), a, piece, reading);
-    wording::say_frame(a, answer);
+    print::say(b"  answer:  ");
+    print::say_answer(frame::read(request), a, piece, reading);
+    print::say_frame(a, answer);
     with_event(s, e, event, reading)
 }
 
@@ -114,19 +114,19 @@ fn refused(mut s: Sheet, e: Exercise, request: &[u8], number: u8) -> Sheet {
     let book = s.book;
     let book = marking::refused(book, e, request, number);
     s.book = book;
-    show::say(b"  answer:  none, refused with ");
-    wording::say_refusal(number);
-    show::say(b"\n\n");
+    print::say(b"  answer:  none, refused with ");
+    print::say_refusal(number);
+    print::say(b"\n\n");
     s
 }
 
 // The line that begins a step.
 fn say_head(s: Sheet, item: &[u8]) {
-    show::say(b"Call ");
-    show::say_number(s.calls);
-    show::say(b" at ");
-    wording::say_clock(script::clock_of(item));
-    show::say(b", ");
+    print::say(b"Call ");
+    print::say_number(s.calls);
+    print::say(b" at ");
+    print::say_clock(script::clock_of(item));
+    print::say(b", ");
 }
 
 // Whether a state has taken a frame's number, so that the same number is a repeat.
@@ -149,21 +149,21 @@ fn is_repeat(row: [Connection; 8], client: SdoClientInfo, f: Frame) -> bool {
 
 fn say_request(row: [Connection; 8], client: SdoClientInfo, request: &[u8]) {
     let f = frame::read(request);
-    wording::say_client(client);
-    show::say(b"\n  request: ");
-    steps::say_request(f, request);
+    print::say_client(client);
+    print::say(b"\n  request: ");
+    print::say_request(f, request);
     if is_repeat(row, client, f) {
-        show::say(b"; a repeat: it has the number of the frame before");
+        print::say(b"; a repeat: it has the number of the frame before");
     }
-    wording::say_frame(f, request);
+    print::say_frame(f, request);
 }
 
 // The end of a step: it says where the client's connection is closed now.
 fn say_after(row: [Connection; 8], client: SdoClientInfo) {
     if 7 < table::place_of(row, client) {
-        show::say(b"  then:    the connection is closed\n");
+        print::say(b"  then:    the connection is closed\n");
     }
-    show::say(b"\n");
+    print::say(b"\n");
 }
 
 // A request and what came of it.
@@ -197,9 +197,9 @@ fn tick_answered(s: Sheet, e: Exercise, item: &[u8], done: Played, answer: &[u8]
     let after = lent.table;
     let client = told.client;
     say_head(s, item);
-    show::say(b"the controller's own clock, for ");
-    wording::say_client(client);
-    show::say(b"\n");
+    print::say(b"the controller's own clock, for ");
+    print::say_client(client);
+    print::say(b"\n");
     let s = answered(s, e, client, b"", octets::part(answer, 0, told.length));
     say_after(after, client);
     s
@@ -216,7 +216,7 @@ fn tick_step(mut s: Sheet, e: Exercise, item: &[u8], done: Played, answer: &[u8]
         return tick_answered(s, e, item, done, answer);
     }
     say_head(s, item);
-    show::say(b"the controller's own clock\n");
+    print::say(b"the controller's own clock\n");
     refused(s, e, b"", told.code)
 }
 
@@ -244,15 +244,15 @@ pub fn call_step(
 // An item that lends something. A table that is lent knows nothing of the readings so far.
 pub fn lend_step(mut s: Sheet, item: &[u8]) -> Sheet {
     let kind = octets::byte_at(item, 0);
-    show::say(b"(The recording sets ");
-    show::say(show::line(
+    print::say(b"(The recording sets ");
+    print::say_line(
         b"the controller's objects.)
 the table of connections: readings begin anew.)
 the area.)
 the lengths of what the controller is lent.)",
         std::num::wrapping_sub_u8(kind, 4),
-    ));
-    show::say(b"\n\n");
+    );
+    print::say(b"\n\n");
     if kind == 5 {
         let book = s.book;
         let book = marking::anew(book);

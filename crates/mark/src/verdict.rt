@@ -1,4 +1,5 @@
 // The end of the sheet: what finished, and the mark.
+use crate::print;
 use crate::sheet::Finish;
 use crate::sheet::Sheet;
 use marking::Exercise;
@@ -8,21 +9,21 @@ use marking::Marks;
 // A finish, without an end of the line.
 fn say_finish(f: Finish) {
     let client = f.client;
-    show::say(b"call ");
-    show::say_number(f.call);
-    show::say(b", ");
-    wording::say_client(client);
-    show::say(b": ");
-    show::say_number(f.length as u64);
-    show::say(b" bytes, CRC-32 ");
-    wording::say_code(f.crc);
+    print::say(b"call ");
+    print::say_number(f.call);
+    print::say(b", ");
+    print::say_client(client);
+    print::say(b": ");
+    print::say_number(f.length as u64);
+    print::say(b" bytes, CRC-32 ");
+    print::say_code(f.crc);
 }
 
 // A finish, on a line of its own.
 fn say_listed(f: Finish) {
-    show::say(b"  ");
+    print::say(b"  ");
     say_finish(f);
-    show::say(b"\n");
+    print::say(b"\n");
 }
 
 // The finishes that are kept.
@@ -38,63 +39,63 @@ fn say_finishes(rows: [Finish; 8], finished: u64) {
 
 // What was played, and each finish.
 fn say_counts(s: Sheet, e: Exercise) {
-    show::say_number(s.calls);
-    show::say(b" calls. Not shown: ");
-    show::say_number(s.silent);
-    show::say(b" of the controller's own clock that sent nothing, and ");
-    show::say_number(s.queries);
-    show::say(b" that asked for the next deadline.\nFinished readings of ");
-    wording::say_object(e.index, e.sub);
-    show::say(b": ");
-    show::say_number(s.finished);
-    show::say(b"\n");
+    print::say_number(s.calls);
+    print::say(b" calls. Not shown: ");
+    print::say_number(s.silent);
+    print::say(b" of the controller's own clock that sent nothing, and ");
+    print::say_number(s.queries);
+    print::say(b" that asked for the next deadline.\nFinished readings of ");
+    print::say_object(e.index, e.sub);
+    print::say(b": ");
+    print::say_number(s.finished);
+    print::say(b"\n");
     let rows = s.finishes;
     say_finishes(rows, s.finished);
     if 8 < s.finished {
-        show::say(b"  and more\n");
+        print::say(b"  and more\n");
     }
 }
 
 // Where a reading that did not end stopped.
 fn say_stopped(m: Marks, sent: u32, total: u32) {
-    show::say(b"the reading began and stopped at byte ");
-    show::say_number(sent as u64);
-    show::say(b" of ");
-    show::say_number(total as u64);
+    print::say(b"the reading began and stopped at byte ");
+    print::say_number(sent as u64);
+    print::say(b" of ");
+    print::say_number(total as u64);
     if m.ended == 0 {
-        show::say(b": the pieces were not acknowledged to the end.");
+        print::say(b": the pieces were not acknowledged to the end.");
         return;
     }
-    show::say(b": it was ended by abort ");
-    wording::say_abort(m.ended);
-    show::say(b".");
+    print::say(b": it was ended by abort ");
+    print::say_abort(m.ended);
+    print::say(b".");
 }
 
 fn say_other_length(e: Exercise, length: u32) {
-    show::say(b"the object was read to its end, but has ");
-    show::say_number(length as u64);
-    show::say(b" bytes where the exercise asks for ");
-    show::say_number(e.length as u64);
-    show::say(b".");
+    print::say(b"the object was read to its end, but has ");
+    print::say_number(length as u64);
+    print::say(b" bytes where the exercise asks for ");
+    print::say_number(e.length as u64);
+    print::say(b".");
 }
 
 fn say_not_asked(e: Exercise) {
-    show::say(b"the connection was opened, but ");
-    wording::say_object(e.index, e.sub);
-    show::say(b" was never asked for.");
+    print::say(b"the connection was opened, but ");
+    print::say_object(e.index, e.sub);
+    print::say(b" was never asked for.");
 }
 
 // A denial: what it is, the code or number with its meaning comes behind.
 fn say_denied(code: u32) {
-    show::say(b"the object was asked for, and the answer was abort ");
-    wording::say_abort(code);
-    show::say(b".");
+    print::say(b"the object was asked for, and the answer was abort ");
+    print::say_abort(code);
+    print::say(b".");
 }
 
 fn say_refused(number: u8) {
-    show::say(b"the object was asked for, and the request was refused with ");
-    wording::say_refusal(number);
-    show::say(b".");
+    print::say(b"the object was asked for, and the request was refused with ");
+    print::say_refusal(number);
+    print::say(b".");
 }
 
 // The reason of a mark.
@@ -102,13 +103,13 @@ fn say_reason(s: Sheet, e: Exercise, mark: Mark) {
     let book = s.book;
     let m = book.marks;
     match mark {
-        Mark::Passed => show::say(b"."),
+        Mark::Passed => print::say(b"."),
         Mark::OtherLength(length) => say_other_length(e, length),
-        Mark::NotOpened => show::say(b"the connection was never opened (initialised)."),
+        Mark::NotOpened => print::say(b"the connection was never opened (initialised)."),
         Mark::NotAsked => say_not_asked(e),
         Mark::DeniedBy(code) => say_denied(code),
         Mark::RefusedWith(number) => say_refused(number),
-        Mark::NotAnswered => show::say(
+        Mark::NotAnswered => print::say(
             b"the object was asked for in the middle of another transfer.",
         ),
         Mark::Stopped(sent, total) => say_stopped(m, sent, total),
@@ -118,28 +119,28 @@ fn say_reason(s: Sheet, e: Exercise, mark: Mark) {
 // The mark of a reading that finished.
 fn say_passed(s: Sheet) {
     let f = s.passed;
-    show::say(b"MARK: PASSED\nThe object was read to its end: ");
+    print::say(b"MARK: PASSED\nThe object was read to its end: ");
     say_finish(f);
 }
 
 // How a recording ends that is not whole.
 fn say_cut(ended: &[u8], at: u64) {
-    show::say(b"the recording ");
-    show::say(ended);
-    show::say_number(at);
+    print::say(b"the recording ");
+    print::say(ended);
+    print::say_number(at);
 }
 
 // The mark of a recording in which no reading passed. One that is not whole shows no more than what came before.
 fn say_failed(s: Sheet, e: Exercise, ended: &[u8], at: u64) {
     let book = s.book;
     let m = book.marks;
-    show::say(b"MARK: FAILED\nReason: ");
+    print::say(b"MARK: FAILED\nReason: ");
     if 0 < ended.len() {
         say_cut(ended, at);
-        show::say(b"; up to there: ");
+        print::say(b"; up to there: ");
     }
     if s.calls == 0 {
-        show::say(b"the recording has no call in it.");
+        print::say(b"the recording has no call in it.");
         return;
     }
     say_reason(s, e, marking::mark_of(m));
@@ -154,9 +155,9 @@ pub fn say_end(s: Sheet, e: Exercise, ended: &[u8], at: u64) {
         return say_failed(s, e, ended, at);
     }
     if 0 < ended.len() {
-        show::say(b"Note: ");
+        print::say(b"Note: ");
         say_cut(ended, at);
-        show::say(b".\n");
+        print::say(b".\n");
     }
     say_passed(s);
 }

@@ -2,15 +2,17 @@
 use Prim.Native.Nat.{ℕ, zero, suc, _+_, _-_, _/_, _%_, _≤_, _<_}
 use native.Mathlib.Omega.{arith}
 use native.Mathlib.Numerals.{add-one}
-use mathlib.Core.Path.{_≡_, refl, sym, _∙_}
-use mathlib.Core.Bool.{Bool, true, false}
+use mathlib.Core.Path.{_≡_, refl, sym, ap, _∙_}
+use mathlib.Core.Bool.{Bool, true, false, not}
+use Prim.Native.String.{String}
 use mathlib.Core.List.{List, [], _∷_, _++_, append-assoc, append-nil}
 use lib.Dec.{ltb, leb, eqb}
-use lib.ListN.{length, getD, set, drop, length-set, length-drop, drop-of-length-le}
-use lib.Seq.{drop-cons, getD-set-same, drop-set-lt, drop-drop}
-use borrow.Author.Tests.{lt-ltb, le-ltb, leb-true, leb-false}
-use Rattle.picks.specs.Pick.{pick, first}
-use Rattle.show.specs.Text.{Page, laid, letters, hexText, decimal, bytesText, lineOf, behindMark}
+use lib.ListN.{length, getD, set, drop, length-set, length-append, length-drop, drop-of-length-le}
+use lib.Seq.{drop-cons, getD-set-same, drop-set-lt, drop-drop, append-snoc, take-append-seam, drop-at}
+use borrow.Author.Tests.{lt-ltb, le-ltb, leb-true, leb-false, not-true}
+use Rattle.picks.specs.Pick.{pick, first, every}
+use Rattle.picks.proofs.Keep.{left, right}
+use Rattle.show.specs.Text.{Page, laid, letters, hexText, decimal, bytesText, untilMark, lineOf, behindMark, tabled, entry}
 use Rattle.show.proofs.Laid.{laid-laid}
 
 -- a place of a list after a store there
@@ -77,3 +79,39 @@ module _ (at : ℕ) (text : List ℕ) where
   next-line =
       let k = first (λ c. eqb c 10) (drop at text) in
       rw (drop-drop (suc k) at text) (drop-again (at + suc k) text)
+
+-- a text has no end of line in it
+abbrev pub inline : List ℕ → Bool
+inline text = every (λ c. not (eqb c 10)) text
+
+-- the first line of a text, and what stands behind it
+line-length : (a rest : List ℕ) → inline a ≡ true → first (λ c. eqb c 10) (a ++ (10 ∷ rest)) ≡ length a
+unfolding first pick every
+line-length [] rest h = refl
+line-length (x ∷ a) rest h =
+    let e : eqb x 10 ≡ false = not-true (eqb x 10) (left (not (eqb x 10)) (inline a) h) in
+    rw e (ap suc (line-length a rest (right (not (eqb x 10)) (inline a) h)))
+
+until-end : (a rest : List ℕ) → inline a ≡ true → untilMark 10 (a ++ (10 ∷ rest)) ≡ a
+unfolding untilMark
+until-end a rest h = rw (line-length a rest h) (take-append-seam a (10 ∷ rest))
+
+behind-end : (a rest : List ℕ) → inline a ≡ true → behindMark 10 (a ++ (10 ∷ rest)) ≡ rest
+unfolding behindMark
+behind-end a rest h = rw (line-length a rest h, ← append-snoc a 10 rest) (drop-at (a ++ (10 ∷ [])) rest (suc (length a)) (simp length-append (omega arith)))
+
+-- no line of an empty text has a letter
+line-none : (n : ℕ) → lineOf n [] ≡ []
+unfolding lineOf untilMark behindMark first
+line-none zero = refl
+line-none (suc n) = line-none n
+
+-- a line of a table is its text
+pub table-line : (n : ℕ) (table : List String) → every (λ s. inline (letters s)) table ≡ true → lineOf n (tabled table) ≡ entry n table
+unfolding lineOf tabled entry every
+table-line n [] h = line-none n
+table-line zero (s ∷ rest) h = until-end (letters s) (tabled rest) (left (inline (letters s)) _ h)
+table-line (suc n) (s ∷ rest) h = rw (behind-end (letters s) (tabled rest) (left (inline (letters s)) _ h)) (table-line n rest (right (inline (letters s)) _ h))
+
+pub laid-entry : {r : Page} (p : Page) (n : ℕ) (table : List String) → every (λ s. inline (letters s)) table ≡ true → r ≡ laid p (lineOf n (tabled table)) → r ≡ laid p (entry n table)
+laid-entry p n table h e = e ∙ ap (laid p) (table-line n table h)

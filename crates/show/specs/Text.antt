@@ -25,6 +25,16 @@ unfoldable pub lineOf : ℕ → List ℕ → List ℕ
 lineOf zero text = untilMark 10 text
 lineOf (suc n) text = lineOf n (behindMark 10 text)
 
+-- texts in a table, with an end of line behind each; the one with this number, and nothing behind the last
+unfoldable pub tabled : List String → List ℕ
+tabled [] = []
+tabled (s ∷ rest) = letters s ++ (10 ∷ tabled rest)
+
+unfoldable pub entry : ℕ → List String → List ℕ
+entry n [] = []
+entry zero (s ∷ rest) = letters s
+entry (suc n) (s ∷ rest) = entry n rest
+
 -- a digit, 0 to 9 and then A to F
 abbrev pub digitOf : ℕ → ℕ
 digitOf d = pick (ltb d 10) (48 + d) (55 + d)

@@ -1,4 +1,4 @@
-// Texts, numbers and bytes on standard output, and the parts of a text. Bytes are in hex, with a blank before each.
+// Texts, numbers and bytes laid on a lent page, and the parts of a text. A page has a place, where the next text goes; what does not fit is dropped.
 ghost use Prim.Native.Nat.{_<_, _≤_, min};
 ghost use mathlib.Core.Path.{_≡_};
 ghost use lib.ListN.{length, drop};
@@ -24,14 +24,6 @@ pub fn put(page: &mut [u8], at: usize, text: &[u8]) -> usize
     let n = least(text.len(), page.len() - at);
     octets::copy_at(page, at, text);
     at + n
-}
-
-pub fn say(text: &[u8]) {
-    io::write_all(libc::STDOUT_FILENO, text);
-}
-
-pub fn say_number(n: u64) {
-    io::print_decimal(libc::STDOUT_FILENO, n);
 }
 
 // A digit, 0 to 9 and then A to F.
@@ -120,34 +112,6 @@ pub fn put_start(page: &mut [u8], at: usize, bytes: &[u8], shown: usize) -> usiz
     at
 }
 
-// A byte's two digits.
-pub fn say_hex(b: u8) {
-    say(&[digit((b / 16) as u64), digit((b % 16) as u64)]);
-}
-
-fn say_byte(b: u8) {
-    say(b" ");
-    say_hex(b);
-}
-
-pub fn say_bytes(bytes: &[u8]) {
-    let mut i = 0;
-    while i < bytes.len() {
-        say_byte(octets::byte_at(bytes, i));
-        i += 1;
-    }
-}
-
-// The first bytes, and how many follow.
-pub fn say_start(bytes: &[u8], shown: usize) {
-    say_bytes(octets::part(bytes, 0, shown));
-    if shown < bytes.len() {
-        say(b" and ");
-        say_number((bytes.len() - shown) as u64);
-        say(b" more");
-    }
-}
-
 // Where a mark first stands in a text: its length where it does not.
 fn find(text: &[u8], mark: u8) -> usize
     ensures { λ r. ⌜ r ≡ first (λ x. eqb x mark) (now (text .entry)) ⌝ }
@@ -197,4 +161,11 @@ pub fn line(text: &[u8], n: u8) -> &[u8]
         left -= 1;
     }
     before(octets::rest(text, at), b'\n')
+}
+
+// The line of a table with this number.
+pub fn put_line(page: &mut [u8], at: usize, table: &[u8], n: u8) -> usize
+    ensures { λ r. ⌜ pageAt r (now (page .exit)) ≡ laid (pageAt at (now (page .entry))) (lineOf n (now (table .entry))) ⌝ }
+{
+    put(page, at, line(table, n))
 }

@@ -1,98 +1,148 @@
-// Clients, clocks, frames, refusals and aborts in words for a trainer; steps: what a request asks and what an answer gives.
+// Clients, clocks, frames, refusals and aborts in words for a trainer, laid on a page; steps: what a request asks and what an answer gives.
 pub mod steps;
 
 use protocol::SdoClientInfo;
 use reading::frame;
 use reading::frame::Frame;
+ghost use mathlib.Core.Path.{_≡_};
+ghost use mathlib.Core.List.{[]};
+ghost use Prim.Native.Nat.{_%_};
+ghost use Rattle.picks.specs.Pick.{pick};
+ghost use Rattle.show.specs.Text.{pageAt, laid, entry, digits, digitOf};
+ghost use Rattle.wording.specs.Words.{clockText, dotted, addressText, dashed, macText, nodeText, portText, clientText, codeText, objectText, textsOf, meanings, unknownCode, meaning, abortText, refusalText, names, idText, headerText, kindText, totalText, commandText, decodedText, frameText};
 
 // A decimal digit.
-fn digit(n: u64) -> u8 {
+fn digit(n: u64) -> u8
+    ensures { λ r. ⌜ r ≡ digitOf (n % 10) ⌝ }
+{
     b'0' + (n % 10) as u8
 }
 
 // The last six digits of a number.
-fn say_six(n: u64) {
-    show::say(
-        &[
-            digit(n / 100000),
-            digit(n / 10000),
-            digit(n / 1000),
-            digit(n / 100),
-            digit(n / 10),
-            digit(n),
-        ],
-    );
+fn put_six(page: &mut [u8], at: usize, n: u64) -> usize
+    ensures { λ r. ⌜ pageAt r (now (page .exit)) ≡ laid (pageAt at (now (page .entry))) (digits 10 6 n) ⌝ }
+{
+    let text = [
+        digit(n / 100000),
+        digit(n / 10000),
+        digit(n / 1000),
+        digit(n / 100),
+        digit(n / 10),
+        digit(n),
+    ];
+    show::put(page, at, &text)
 }
 
 // A clock of microseconds, in seconds.
-pub fn say_clock(clock: u64) {
-    show::say_number(clock / 1000000);
-    show::say(b".");
-    say_six(clock);
-    show::say(b" s");
+pub fn put_clock(page: &mut [u8], at: usize, clock: u64) -> usize
+    ensures { λ r. ⌜ pageAt r (now (page .exit)) ≡ laid (pageAt at (now (page .entry))) (clockText clock) ⌝ }
+{
+    let at = show::put_number(page, at, clock / 1000000);
+    let at = show::put(page, at, b".");
+    let at = put_six(page, at, clock);
+    show::put(page, at, b" s")
+}
+
+// A byte of an address, behind another.
+fn put_dotted(page: &mut [u8], at: usize, n: u64) -> usize
+    ensures { λ r. ⌜ pageAt r (now (page .exit)) ≡ laid (pageAt at (now (page .entry))) (dotted n) ⌝ }
+{
+    let at = show::put(page, at, b".");
+    show::put_number(page, at, n)
 }
 
 // The four bytes of an address.
-fn say_address(ip: u32) {
-    show::say_number((ip / 16777216) as u64);
-    show::say(b".");
-    show::say_number((ip / 65536 % 256) as u64);
-    show::say(b".");
-    show::say_number((ip / 256 % 256) as u64);
-    show::say(b".");
-    show::say_number((ip % 256) as u64);
+fn put_address(page: &mut [u8], at: usize, ip: u32) -> usize
+    ensures { λ r. ⌜ pageAt r (now (page .exit)) ≡ laid (pageAt at (now (page .entry))) (addressText ip) ⌝ }
+{
+    let at = show::put_number(page, at, (ip / 16777216) as u64);
+    let at = put_dotted(page, at, (ip / 65536 % 256) as u64);
+    let at = put_dotted(page, at, (ip / 256 % 256) as u64);
+    put_dotted(page, at, (ip % 256) as u64)
+}
+
+// A byte of a MAC address, behind another.
+fn put_dashed(page: &mut [u8], at: usize, n: u64) -> usize
+    ensures { λ r. ⌜ pageAt r (now (page .exit)) ≡ laid (pageAt at (now (page .entry))) (dashed n) ⌝ }
+{
+    let at = show::put(page, at, b"-");
+    show::put_hex(page, at, n)
 }
 
 // The six bytes of a MAC address.
-fn say_mac(mac: u64) {
-    show::say_hex((mac / 1099511627776 % 256) as u8);
-    show::say(b"-");
-    show::say_hex((mac / 4294967296 % 256) as u8);
-    show::say(b"-");
-    show::say_hex((mac / 16777216 % 256) as u8);
-    show::say(b"-");
-    show::say_hex((mac / 65536 % 256) as u8);
-    show::say(b"-");
-    show::say_hex((mac / 256 % 256) as u8);
-    show::say(b"-");
-    show::say_hex((mac % 256) as u8);
+fn put_mac(page: &mut [u8], at: usize, mac: u64) -> usize
+    ensures { λ r. ⌜ pageAt r (now (page .exit)) ≡ laid (pageAt at (now (page .entry))) (macText mac) ⌝ }
+{
+    let at = show::put_hex(page, at, mac / 1099511627776);
+    let at = put_dashed(page, at, mac / 4294967296);
+    let at = put_dashed(page, at, mac / 16777216);
+    let at = put_dashed(page, at, mac / 65536);
+    let at = put_dashed(page, at, mac / 256);
+    put_dashed(page, at, mac)
 }
 
-pub fn say_client(client: SdoClientInfo) {
+// A client on the raw network.
+fn put_node(page: &mut [u8], at: usize, node: u8, mac: u64) -> usize
+    ensures { λ r. ⌜ pageAt r (now (page .exit)) ≡ laid (pageAt at (now (page .entry))) (nodeText node mac) ⌝ }
+{
+    let at = show::put(page, at, b"node ");
+    let at = show::put_number(page, at, node as u64);
+    let at = show::put(page, at, b" (MAC ");
+    let at = put_mac(page, at, mac);
+    show::put(page, at, b")")
+}
+
+// A client over UDP.
+fn put_port(page: &mut [u8], at: usize, ip: u32, port: u16) -> usize
+    ensures { λ r. ⌜ pageAt r (now (page .exit)) ≡ laid (pageAt at (now (page .entry))) (portText ip port) ⌝ }
+{
+    let at = put_address(page, at, ip);
+    let at = show::put(page, at, b" port ");
+    show::put_number(page, at, port as u64)
+}
+
+// A client.
+pub fn put_client(page: &mut [u8], at: usize, client: SdoClientInfo) -> usize
+    ensures { λ r. ⌜ pageAt r (now (page .exit)) ≡ laid (pageAt at (now (page .entry))) (clientText client) ⌝ }
+{
     match client {
-        SdoClientInfo::Asnd { node, mac } => {
-            show::say(b"node ");
-            show::say_number(node as u64);
-            show::say(b" (MAC ");
-            say_mac(mac);
-            show::say(b")");
-        }
-        SdoClientInfo::Udp { ip, port } => {
-            say_address(ip);
-            show::say(b" port ");
-            show::say_number(port as u64);
-        }
+        SdoClientInfo::Asnd { node, mac } => put_node(page, at, node, mac),
+        SdoClientInfo::Udp { ip, port } => put_port(page, at, ip, port),
     }
 }
 
-pub fn say_object(index: u16, sub: u8) {
-    show::say(b"object ");
-    show::say_hex((index / 256) as u8);
-    show::say_hex((index % 256) as u8);
-    show::say(b" hex, sub-index ");
-    show::say_number(sub as u64);
+// An index in four digits.
+fn put_index(page: &mut [u8], at: usize, index: u16) -> usize
+    ensures { λ r. ⌜ pageAt r (now (page .exit)) ≡ laid (pageAt at (now (page .entry))) (digits 16 4 index) ⌝ }
+{
+    let at = show::put_hex(page, at, (index / 256) as u64);
+    show::put_hex(page, at, index as u64)
+}
+
+// An object.
+pub fn put_object(page: &mut [u8], at: usize, index: u16, sub: u8) -> usize
+    ensures { λ r. ⌜ pageAt r (now (page .exit)) ≡ laid (pageAt at (now (page .entry))) (objectText index sub) ⌝ }
+{
+    let at = show::put(page, at, b"object ");
+    let at = put_index(page, at, index);
+    let at = show::put(page, at, b" hex, sub-index ");
+    show::put_number(page, at, sub as u64)
 }
 
 // A number in eight hex digits.
-pub fn say_code(code: u32) {
-    show::say_hex((code / 16777216) as u8);
-    show::say_hex((code / 65536 % 256) as u8);
-    show::say_hex((code / 256 % 256) as u8);
-    show::say_hex((code % 256) as u8);
+pub fn put_code(page: &mut [u8], at: usize, code: u32) -> usize
+    ensures { λ r. ⌜ pageAt r (now (page .exit)) ≡ laid (pageAt at (now (page .entry))) (codeText code) ⌝ }
+{
+    let at = show::put_hex(page, at, (code / 16777216) as u64);
+    let at = show::put_hex(page, at, (code / 65536) as u64);
+    let at = show::put_hex(page, at, (code / 256) as u64);
+    show::put_hex(page, at, code as u64)
 }
 
-// The place of an abort's code in the text of their meanings.
-fn code_place(code: u32) -> u8 {
+// The place of an abort's code in the table of their meanings.
+fn code_place(code: u32) -> u8
+    ensures { λ r. ⌜ entry r (textsOf meanings unknownCode) ≡ meaning code ⌝ }
+{
     match code {
         0x05040000 => 1,
         0x05040001 => 2,
@@ -108,9 +158,11 @@ fn code_place(code: u32) -> u8 {
     }
 }
 
-// An abort's code and its meaning.
-pub fn say_abort(code: u32) {
-    let text = b"a code that the controller never sends
+// The meaning of an abort's code.
+fn put_meaning(page: &mut [u8], at: usize, code: u32) -> usize
+    ensures { λ r. ⌜ pageAt r (now (page .exit)) ≡ laid (pageAt at (now (page .entry))) (meaning code) ⌝ }
+{
+    let table = b"a code that the controller never sends
 the transfer took too long: a piece was not acknowledged in time
 the command is unknown or cannot be read
 this command does not belong here: no such transfer is running, or it must be acknowledged first
@@ -120,15 +172,25 @@ there is no such object
 the object does not have this length
 too few bytes for the object
 the object has no such sub-index
-another transfer of this client is running";
-    say_code(code);
-    show::say(b": ");
-    show::say(show::line(text, code_place(code)));
+another transfer of this client is running
+";
+    show::put_line(page, at, table, code_place(code))
+}
+
+// An abort's code and its meaning.
+pub fn put_abort(page: &mut [u8], at: usize, code: u32) -> usize
+    ensures { λ r. ⌜ pageAt r (now (page .exit)) ≡ laid (pageAt at (now (page .entry))) (abortText code) ⌝ }
+{
+    let at = put_code(page, at, code);
+    let at = show::put(page, at, b": ");
+    put_meaning(page, at, code)
 }
 
 // A refusal's number and its meaning.
-pub fn say_refusal(number: u8) {
-    let text = b"
+pub fn put_refusal(page: &mut [u8], at: usize, number: u8) -> usize
+    ensures { λ r. ⌜ pageAt r (now (page .exit)) ≡ laid (pageAt at (now (page .entry))) (refusalText number) ⌝ }
+{
+    let table = b"
 the bench lent the controller a buffer of a wrong length
 the dictionary image is not sound
 the table of connections is not sound
@@ -137,14 +199,17 @@ the frame is shorter than its header of four bytes
 the frame is longer than 1500 bytes
 eight clients are connected already
 the frame's number is neither the next one nor the last one, or the frame does not confirm the opening
-an empty frame that neither acknowledges nor asks again";
-    show::say_number(number as u64);
-    show::say(b": ");
-    show::say(show::line(text, number));
+an empty frame that neither acknowledges nor asks again
+";
+    let at = show::put_number(page, at, number as u64);
+    let at = show::put(page, at, b": ");
+    show::put_line(page, at, table, number)
 }
 
-// The place of a command's id in the text of their names.
-fn id_place(id: u8) -> u8 {
+// The place of a command's id in the table of their names.
+fn id_place(id: u8) -> u8
+    ensures { λ r. ⌜ entry r (textsOf names "Nil") ≡ idText id ⌝ }
+{
     match id {
         0x01 => 1,
         0x02 => 2,
@@ -162,8 +227,11 @@ fn id_place(id: u8) -> u8 {
     }
 }
 
-fn say_id(id: u8) {
-    let text = b"Nil
+// A command's name.
+fn put_id(page: &mut [u8], at: usize, id: u8) -> usize
+    ensures { λ r. ⌜ pageAt r (now (page .exit)) ≡ laid (pageAt at (now (page .entry))) (idText id) ⌝ }
+{
+    let table = b"Nil
 WriteByIndex
 ReadByIndex
 WriteAllByIndex
@@ -175,69 +243,92 @@ FileRead
 WriteMultipleParamByIndex
 ReadMultipleParamByIndex
 Abort
-MaxSegmentSize";
-    show::say(show::line(text, id_place(id)));
+MaxSegmentSize
+";
+    show::put_line(page, at, table, id_place(id))
 }
 
 // The sequence header's numbers and marks.
-fn say_header(f: Frame) {
-    show::say(b"\n    header:  receive ");
-    show::say_number(f.receive as u64);
-    show::say(show::line(
-        b" (no connection)\n (initialisation)\n (valid)\n (error response)",
-        f.rcon,
-    ));
-    show::say(b", send ");
-    show::say_number(f.send as u64);
-    show::say(show::line(
-        b" (no connection)\n (initialisation)\n (valid)\n (valid, please acknowledge)",
-        f.scon,
-    ));
+fn put_header(page: &mut [u8], at: usize, f: Frame) -> usize
+    ensures { λ r. ⌜ pageAt r (now (page .exit)) ≡ laid (pageAt at (now (page .entry))) (headerText f) ⌝ }
+{
+    let receive = b" (no connection)\n (initialisation)\n (valid)\n (error response)\n";
+    let send = b" (no connection)\n (initialisation)\n (valid)\n (valid, please acknowledge)\n";
+    let at = show::put(page, at, b"\n    header:  receive ");
+    let at = show::put_number(page, at, f.receive as u64);
+    let at = show::put_line(page, at, receive, f.rcon);
+    let at = show::put(page, at, b", send ");
+    let at = show::put_number(page, at, f.send as u64);
+    show::put_line(page, at, send, f.scon)
 }
 
 // A word where a flag is set.
-fn say_flag(flag: bool, word: &[u8]) {
+fn put_flag(page: &mut [u8], at: usize, flag: bool, word: &[u8]) -> usize
+    ensures { λ r. ⌜ pageAt r (now (page .exit)) ≡ laid (pageAt at (now (page .entry))) (pick flag (now (word .entry)) []) ⌝ }
+{
     if flag {
-        show::say(word);
+        return show::put(page, at, word);
     }
+    at
+}
+
+// The command's kind: its name, its segmentation and its flags.
+fn put_kind(page: &mut [u8], at: usize, f: Frame) -> usize
+    ensures { λ r. ⌜ pageAt r (now (page .exit)) ≡ laid (pageAt at (now (page .entry))) (kindText f) ⌝ }
+{
+    let table = b", Expedited\n, Initiate\n, Segment\n, Complete\n";
+    let at = show::put(page, at, b"\n    command: ");
+    let at = put_id(page, at, f.id);
+    let at = show::put_line(page, at, table, f.segmentation);
+    let at = put_flag(page, at, f.response, b", response");
+    put_flag(page, at, f.aborted, b", aborted")
 }
 
 // The size that an Initiate carries.
-fn say_total(f: Frame) {
-    if f.segmentation == 1 {
-        show::say(b", ");
-        show::say_number(f.total as u64);
-        show::say(b" bytes in all");
+fn put_total(page: &mut [u8], at: usize, f: Frame) -> usize
+    ensures { λ r. ⌜ pageAt r (now (page .exit)) ≡ laid (pageAt at (now (page .entry))) (totalText f) ⌝ }
+{
+    if f.segmentation != 1 {
+        return at;
     }
+    let at = show::put(page, at, b", ");
+    let at = show::put_number(page, at, f.total as u64);
+    show::put(page, at, b" bytes in all")
 }
 
 // The command's header.
-fn say_command(f: Frame) {
-    show::say(b"\n    command: ");
-    say_id(f.id);
-    show::say(show::line(
-        b", Expedited\n, Initiate\n, Segment\n, Complete",
-        f.segmentation,
-    ));
-    say_flag(f.response, b", response");
-    say_flag(f.aborted, b", aborted");
-    show::say(b", transaction ");
-    show::say_number(f.transaction as u64);
-    say_total(f);
-    show::say(b", ");
-    show::say_number(f.size as u64);
-    show::say(b" bytes of data");
+fn put_command(page: &mut [u8], at: usize, f: Frame) -> usize
+    ensures { λ r. ⌜ pageAt r (now (page .exit)) ≡ laid (pageAt at (now (page .entry))) (commandText f) ⌝ }
+{
+    let at = put_kind(page, at, f);
+    let at = show::put(page, at, b", transaction ");
+    let at = show::put_number(page, at, f.transaction as u64);
+    let at = put_total(page, at, f);
+    let at = show::put(page, at, b", ");
+    let at = show::put_number(page, at, f.size as u64);
+    show::put(page, at, b" bytes of data")
+}
+
+// What a frame has: a header unless it is too short, a command or none.
+fn put_decoded(page: &mut [u8], at: usize, f: Frame) -> usize
+    ensures { λ r. ⌜ pageAt r (now (page .exit)) ≡ laid (pageAt at (now (page .entry))) (decodedText f) ⌝ }
+{
+    if f.kind == frame::SHORT {
+        return at;
+    }
+    let at = put_header(page, at, f);
+    if f.kind == frame::COMMAND {
+        return put_command(page, at, f);
+    }
+    at
 }
 
 // A frame decoded, and its first bytes.
-pub fn say_frame(f: Frame, bytes: &[u8]) {
-    if f.kind != frame::SHORT {
-        say_header(f);
-    }
-    if f.kind == frame::COMMAND {
-        say_command(f);
-    }
-    show::say(b"\n    bytes:  ");
-    show::say_start(bytes, 24);
-    show::say(b"\n");
+pub fn put_frame(page: &mut [u8], at: usize, f: Frame, bytes: &[u8]) -> usize
+    ensures { λ r. ⌜ pageAt r (now (page .exit)) ≡ laid (pageAt at (now (page .entry))) (frameText f (now (bytes .entry))) ⌝ }
+{
+    let at = put_decoded(page, at, f);
+    let at = show::put(page, at, b"\n    bytes:  ");
+    let at = show::put_start(page, at, bytes, 24);
+    show::put(page, at, b"\n")
 }
