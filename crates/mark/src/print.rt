@@ -3,7 +3,6 @@ use protocol::SdoClientInfo;
 use reading::Piece;
 use reading::Reading;
 use reading::frame::Frame;
-use wording::steps;
 
 // The bytes of a page: no words of the sheet have as many.
 const PAGE: usize = 2048;

@@ -1,6 +1,4 @@
-// Clients, clocks, frames, refusals and aborts in words for a trainer, laid on a page; steps: what a request asks and what an answer gives.
-pub mod steps;
-
+// Clients, clocks, frames, refusals and aborts in words for a trainer, laid on a page.
 use protocol::SdoClientInfo;
 use reading::frame;
 use reading::frame::Frame;
