@@ -5,12 +5,13 @@ use mathlib.Core.Path.{_≡_, refl, sym, ap, _∙_}
 use mathlib.Core.Bool.{Bool, true, false}
 use mathlib.Core.List.{List, [], _++_}
 use lib.Dec.{leb}
-use lib.ListN.{length, length-append}
+use lib.ListN.{length, take, drop, length-append}
+use lib.Seq.{take-append-seam}
 use borrow.Author.Tests.{leb-true, leb-false}
 use Rattle.picks.specs.Pick.{pick}
 use Rattle.picks.proofs.Picks.{pick-t, pick-f}
 use Rattle.octets.specs.Octets.{splice}
-use Rattle.octets.proofs.Splice.{splice-none, splice-splice, length-splice, splice-out}
+use Rattle.octets.proofs.Splice.{splice-none, splice-splice, length-splice, splice-out, splice-fits}
 use Rattle.show.specs.Text.{Page, pageAt, laid}
 
 pub page-path : {a b : ℕ} {xs ys : List ℕ} → a ≡ b → xs ≡ ys → pageAt a xs ≡ pageAt b ys
@@ -62,3 +63,10 @@ laid-t p t a b e f = f ∙ ap (laid p) (pick-t t a a b e refl)
 
 pub laid-f : {r : Page} (p : Page) (t : Bool) (a b : List ℕ) → t ≡ false → r ≡ laid p b → r ≡ laid p (pick t a b)
 laid-f p t a b e f = f ∙ ap (laid p) (pick-f t b a b e refl)
+
+-- a page read up to its place, after a text was laid at its start: the text, where it fits
+pub laid-read : (xs text : List ℕ) → length text ≤ length xs → take (laid (pageAt 0 xs) text .at) (laid (pageAt 0 xs) text .bytes) ≡ text
+unfolding laid
+laid-read xs text h =
+    let e : 0 + min (length text) (length xs - 0) ≡ length text = omega arith in
+    rw (e, splice-fits 0 text xs (omega arith)) (take-append-seam text (drop (0 + length text) xs))

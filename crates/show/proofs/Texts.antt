@@ -1,6 +1,7 @@
 -- Laws of digits, bytes and lines: what their loops have at the head, after a turn and at the end.
-use Prim.Native.Nat.{ℕ, zero, suc, _+_, _-_, _/_, _%_, _≤_, _<_}
+use Prim.Native.Nat.{ℕ, zero, suc, _+_, _-_, _/_, _%_, _^_, _≤_, _<_}
 use native.Mathlib.Omega.{arith}
+use native.Mathlib.Nat.{pow-suc}
 use native.Mathlib.Numerals.{add-one}
 use mathlib.Core.Path.{_≡_, refl, sym, ap, _∙_}
 use mathlib.Core.Bool.{Bool, true, false, not}
@@ -115,3 +116,9 @@ table-line (suc n) (s ∷ rest) h = rw (behind-end (letters s) (tabled rest) (le
 
 pub laid-entry : {r : Page} (p : Page) (n : ℕ) (table : List String) → every (λ s. inline (letters s)) table ≡ true → r ≡ laid p (lineOf n (tabled table)) → r ≡ laid p (entry n table)
 laid-entry p n table h e = e ∙ ap (laid p) (table-line n table h)
+
+-- a number below 10 ^ k has no digit more than k: a u64 is below 10 ^ 20
+pub decimal-whole : (k n : ℕ) → n < 10 ^ suc k → decimal (suc (suc k)) n ≡ decimal (suc k) n
+unfolding decimal pick
+decimal-whole zero n h = rw (lt-ltb n 10 (omega (arith, h, pow-suc 10 zero)))
+decimal-whole (suc k) n h = rw (decimal-whole k (n / 10) (omega (arith, h, pow-suc 10 (suc k))))

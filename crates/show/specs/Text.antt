@@ -48,7 +48,7 @@ digits base (suc k) n = digits base k (n / base) ++ (digitOf (n % base) ∷ [])
 abbrev pub hexText : ℕ → List ℕ
 hexText n = digits 16 2 n
 
--- a number in decimal that has at most k digits, without zeros in front; and any u64
+-- a number of at most k digits in decimal, without zeros in front; a u64 has at most 20
 unfoldable pub decimal : ℕ → ℕ → List ℕ
 decimal zero n = []
 decimal (suc k) n = pick (ltb n 10) [] (decimal k (n / 10)) ++ ((48 + n % 10) ∷ [])
