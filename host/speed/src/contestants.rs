@@ -1,8 +1,8 @@
-//! The three that are measured, each with states of its own.
+//! The four that are measured, each with states of its own.
 
 use crate::archive::Archive;
 use crate::cases::Case;
-use crate::rust::{Bare, Checked};
+use crate::rust::{Bare, Checked, Coded};
 
 /// A contestant with a case's setup played on several copies.
 pub trait Prepared {
@@ -19,16 +19,24 @@ pub enum Contestant {
     Archive,
     Bare,
     Checked,
+    Coded,
 }
 
 impl Contestant {
-    pub const ALL: [Contestant; 3] = [Contestant::Archive, Contestant::Bare, Contestant::Checked];
+    pub const COUNT: usize = 4;
+    pub const ALL: [Contestant; Self::COUNT] = [
+        Contestant::Archive,
+        Contestant::Bare,
+        Contestant::Checked,
+        Contestant::Coded,
+    ];
 
     pub fn name(self) -> &'static str {
         match self {
             Contestant::Archive => "archive",
             Contestant::Bare => "bare",
             Contestant::Checked => "checked",
+            Contestant::Coded => "coded",
         }
     }
 
@@ -41,6 +49,7 @@ impl Contestant {
             Contestant::Archive => Box::new(Archive::new(case, image, copies)),
             Contestant::Bare => Box::new(Bare::new(case, image, copies)),
             Contestant::Checked => Box::new(Checked::new(case, image, copies)),
+            Contestant::Coded => Box::new(Coded::new(case, image, copies)),
         }
     }
 }
@@ -65,8 +74,15 @@ mod tests {
                 measured(prepared.as_mut());
                 prepared.answer().to_vec()
             });
-            assert_eq!(answers[0], answers[1], "{}", case.name());
-            assert_eq!(answers[0], answers[2], "{}", case.name());
+            for (contestant, answer) in Contestant::ALL.into_iter().zip(&answers) {
+                assert_eq!(
+                    *answer,
+                    answers[0],
+                    "{}: {}",
+                    case.name(),
+                    contestant.name()
+                );
+            }
         }
     }
 

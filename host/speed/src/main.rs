@@ -1,10 +1,11 @@
-//! The proved server through its C interface, the Rust that was ported, and
-//! that Rust behind the same tests: what a call costs. docs/SPEED.md has the
-//! figures, tools/speed makes them.
+//! The proved server through its C interface, the Rust that was ported, that
+//! Rust behind the same tests, and behind the same interface: what a call
+//! costs. docs/SPEED.md has the figures, tools/speed makes them.
 
 mod archive;
 mod cases;
 mod checks;
+mod coding;
 mod contestants;
 mod rust;
 mod timing;
@@ -16,7 +17,11 @@ use std::process::ExitCode;
 
 const USAGE: &str = "usage: speed                            times of every case, as a table
        speed --list                     the cases' names
-       speed --once CASE CONTESTANT N   a case on N copies, once (archive, bare or checked)";
+       speed --once CASE CONTESTANT N   a case on N copies, once (archive, bare, checked or coded)";
+
+const HEAD: &str = "\
+| case | entries | archive | median | bare | median | checked | median | coded | median | archive / checked | archive / coded |
+|---|--:|--:|--:|--:|--:|--:|--:|--:|--:|--:|--:|";
 
 fn main() -> ExitCode {
     match Args::from_env().and_then(words) {
@@ -69,19 +74,19 @@ fn once(case: &Case, contestant: Contestant, copies: usize) -> Result<(), String
 }
 
 fn all() -> Result<(), String> {
-    println!("| case | entries | archive | median | bare | median | checked | median | archive / checked |");
-    println!("|---|--:|--:|--:|--:|--:|--:|--:|--:|");
+    println!("{HEAD}");
     for case in cases::all() {
         let image = cases::image(case.entries)?;
         let times = timing::of(&case, &image);
-        let [archive, _, checked] = times;
+        let [archive, _, checked, coded] = times;
         let columns = times.map(|times| format!("{:.0} | {:.0}", times.best, times.median));
         println!(
-            "| {} | {} | {} | {:.2} |",
+            "| {} | {} | {} | {:.2} | {:.2} |",
             case.what,
             case.entries,
             columns.join(" | "),
-            archive.best / checked.best
+            archive.best / checked.best,
+            archive.best / coded.best
         );
     }
     Ok(())

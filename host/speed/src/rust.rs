@@ -1,9 +1,11 @@
-//! The Rust that was ported: bare, as the oracle drives it, and behind the
-//! tests of what is lent.
+//! The Rust that was ported: bare, as the oracle drives it, behind the tests of
+//! what is lent, and with the table in its bytes before and after these.
 
 use crate::cases::{Call, Case, CLOCK};
 use crate::checks::{self, Lent};
+use crate::coding;
 use crate::contestants::Prepared;
+use formats::record::TABLE_SIZE;
 use oracle::od::ObjectDictionary;
 use oracle::replay::table::Table;
 use oracle::replay::{Bench, Item, ANSWER};
@@ -77,13 +79,7 @@ impl Prepared for Checked {
         } = &mut self.bare;
         for server in servers {
             for (call, table) in calls.iter().zip(&self.tables) {
-                let lent = Lent {
-                    answer: answer.len(),
-                    area: self.area.len(),
-                    image: dictionary.image(),
-                    table: black_box(table),
-                };
-                assert_eq!(refusal(&lent, call), None);
+                test(answer, &self.area, dictionary, black_box(table), call);
                 play(server, dictionary, answer, call);
             }
         }
@@ -93,6 +89,74 @@ impl Prepared for Checked {
     fn answer(&self) -> &[u8] {
         &self.bare.answer
     }
+}
+
+/// The checked one behind the archive's interface: a table is 320 bytes, as
+/// they stand before each measured call, every copy's own. They are decoded to
+/// the records that are tested, and after a request or a tick the records are
+/// encoded again. What the Rust changes is not carried over into the records:
+/// those that were decoded are encoded.
+pub struct Coded {
+    bare: Bare,
+    area: Vec<u8>,
+    tables: Vec<Vec<[u8; TABLE_SIZE]>>,
+    /// Where the records are decoded to.
+    room: Table,
+}
+
+impl Coded {
+    pub fn new(case: &Case, image: &[u8], copies: usize) -> Coded {
+        let tables: Vec<_> = tables(case, image).iter().map(bytes_of).collect();
+        Coded {
+            bare: Bare::new(case, image, copies),
+            area: vec![0; AREA_SIZE],
+            tables: vec![tables; copies],
+            room: coding::NO_TABLE,
+        }
+    }
+}
+
+impl Prepared for Coded {
+    fn play(&mut self) {
+        let Bare {
+            servers,
+            dictionary,
+            answer,
+            calls,
+        } = &mut self.bare;
+        for (server, tables) in servers.iter_mut().zip(&mut self.tables) {
+            for (call, bytes) in calls.iter().zip(tables) {
+                let table = coding::table_of(bytes, &mut self.room);
+                test(answer, &self.area, dictionary, table, call);
+                play(server, dictionary, answer, call);
+                if !matches!(call, Call::Query) {
+                    coding::encode(table, bytes);
+                }
+            }
+        }
+    }
+
+    #[cfg(test)]
+    fn answer(&self) -> &[u8] {
+        &self.bare.answer
+    }
+}
+
+fn bytes_of(table: &Table) -> [u8; TABLE_SIZE] {
+    let mut bytes = [0; TABLE_SIZE];
+    coding::encode(table, &mut bytes);
+    bytes
+}
+
+/// What is lent passes the tests.
+fn test(answer: &[u8], area: &[u8], od: &ObjectDictionary, table: &Table, call: &Call) {
+    let lent = Lent {
+        answer: answer.len(),
+        area: area.len(),
+        image: od.image(),
+        table,
+    };
+    assert_eq!(refusal(&lent, call), None);
 }
 
 fn refusal(lent: &Lent, call: &Call) -> Option<u8> {

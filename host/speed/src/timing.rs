@@ -18,8 +18,8 @@ pub struct Times {
 }
 
 /// The times of each contestant, in the order of `Contestant::ALL`.
-pub fn of(case: &Case, image: &[u8]) -> [Times; 3] {
-    let mut turns: [Vec<f64>; 3] = Default::default();
+pub fn of(case: &Case, image: &[u8]) -> [Times; Contestant::COUNT] {
+    let mut turns: [Vec<f64>; Contestant::COUNT] = Default::default();
     for turn in 0..TURNS {
         for (contestant, times) in Contestant::ALL.into_iter().zip(&mut turns) {
             let time = one_turn(contestant, case, image);
