@@ -61,10 +61,13 @@ pub struct Checked {
 
 impl Checked {
     pub fn new(case: &Case, image: &[u8], copies: usize) -> Checked {
+        // Before the servers: what this frees behind them would be looked
+        // through for the measured calls' buffers.
+        let tables = tables(case, image);
         Checked {
             bare: Bare::new(case, image, copies),
             area: vec![0; AREA_SIZE],
-            tables: tables(case, image),
+            tables,
         }
     }
 }
