@@ -1,5 +1,5 @@
 //! The proved server through its C interface: the table is 320 bytes, which
-//! each call decodes, and encodes if it may have changed.
+//! each call tests; a request decodes its client's record and stores it again.
 
 use crate::cases::{Call, Case, CLOCK};
 use crate::contestants::Prepared;

@@ -49,8 +49,8 @@ impl Case {
 pub const ENTRIES: [usize; 2] = [50, 4_500];
 
 pub fn all() -> Vec<Case> {
-    // At an image without entries a tick decodes, tests and encodes the table
-    // and does little else.
+    // At an image without entries a tick does its work on the table and little
+    // else.
     let coding = Case {
         what: "tick-0",
         entries: 0,
