@@ -104,7 +104,7 @@ pub fn replace(t: &mut [u8; 320], i: usize, c: Connection)
     if 8 <= i {
         return;
     }
-    octets::copy_at(t, 40 * i, &record::record_bytes(c));
+    record::store_record(t, 40 * i, c);
 }
 
 // A record put at a place and those from there up to place n moved up by one; the one at place n is lost. Where there is no such place the records stay.
@@ -124,7 +124,7 @@ pub fn insert(t: &mut [u8; 320], at: usize, n: usize, c: Connection)
         40 * at + 40,
         octets::part(&old, 40 * at, 40 * n - 40 * at),
     );
-    octets::copy_at(t, 40 * at, &record::record_bytes(c));
+    record::store_record(t, 40 * at, c);
 }
 
 // The record at a place dropped, its area number behind all others; past the end nothing is dropped.
@@ -139,5 +139,5 @@ pub fn drop_at(t: &mut [u8; 320], i: usize)
     tidy(t);
     let old = *t;
     octets::copy_at(t, 40 * i, octets::rest(&old, 40 * i + 40));
-    octets::copy_at(t, 280, &record::record_bytes(record::fresh(area)));
+    record::store_record(t, 280, record::fresh(area));
 }

@@ -304,6 +304,19 @@ fn put_record(out: &mut [u8], at: usize, c: Connection)
     lay_record(&mut out[at..end], c);
 }
 
+// A record is stored at a place; what falls outside is dropped.
+pub fn store_record(out: &mut [u8], at: usize, c: Connection)
+    ensures { λ _. ⌜ now (out .exit) ≡ splice at (recordBytes c) (now (out .entry)) ⌝ }
+{
+    if at < out.len() {
+        if 40 <= out.len() - at {
+            put_record(out, at, c);
+            return;
+        }
+    }
+    octets::copy_at(out, at, &record_bytes(c));
+}
+
 // A table's bytes take the place of 320.
 fn lay_table(out: &mut [u8], row: [Connection; 8])
     requires { ⌜ length (now out) ≡ 320 ⌝ }

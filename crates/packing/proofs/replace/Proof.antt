@@ -16,8 +16,8 @@ returns c =
 
 returns-2 : tie.Need-returns-2
 returns-2 c =
-    let a = c .before .before .before .before .before .before .before .args in
-    rw (c .copy-at .ensures, c .before .before .record-bytes .ensures, c .before .before .before .before .before .tidy .ensures) (placed (a .i) (a .c) (tableOf (a .t .now)) (omega (arith, length-tableOf (a .t .now), c .before .before .before .before .if1 .left)))
+    let a = c .before .before .before .before .before .args in
+    rw (c .store-record .ensures, c .before .before .before .tidy .ensures) (placed (a .i) (a .c) (tableOf (a .t .now)) (omega (arith, length-tableOf (a .t .now), c .before .before .if1 .left)))
 
 pub replace-spec : {M : Type 1} → statement M
 replace-spec =
@@ -25,8 +25,6 @@ replace-spec =
     (tie.spec
     (λ c κs. search needs)
     returns
-    (λ c. search needs)
-    (λ c κs. search needs)
     (λ c. search needs)
     (λ c κs. search needs)
     returns-2)
