@@ -9,7 +9,10 @@ use Rattle.export.proofs.answered.Statement.{statement}
 use Rattle.export.proofs.answered.Tie as tie
 
 returns : tie.Need-returns
-returns c = let a = c .before .before .before .before .before .before .before .before .before .before .before .before .args in let short = le-ltb _ _ (c .before .before .before .before .before .before .before .before .before .before .before .before .pre) in (c .of-request .ensures ∙ ap requestAnswer (c .before .addressed .ensures ∙ ap (addressed (a .client)) (c .before .before .before .before .before .before .put-answer .ensures .0 ∙ sym (pick-f _ _ _ _ short refl))), (c .before .before .settle .ensures, c .before .before .before .before .before .before .put-answer .ensures .1 ∙ sym (pick-f _ _ _ _ short refl)))
+returns c =
+    let a = c .before .before .before .before .before .before .before .before .before .before .before .before .args in
+    let short = le-ltb _ _ (c .before .before .before .before .before .before .before .before .before .before .before .before .pre) in
+    (c .of-request .ensures ∙ ap requestAnswer (c .before .addressed .ensures ∙ ap (addressed (a .client)) (c .before .before .before .before .before .before .put-answer .ensures .0 ∙ sym (pick-f _ _ _ _ short refl))), (c .before .before .settle .ensures, c .before .before .before .before .before .before .put-answer .ensures .1 ∙ sym (pick-f _ _ _ _ short refl)))
 
 pub answered-spec : {M : Type 1} → statement M
 answered-spec =

@@ -8,7 +8,11 @@ use Rattle.export.proofs.give_back.Statement.{statement}
 use Rattle.export.proofs.give_back.Tie as tie
 
 returns : tie.Need-returns
-returns c = let q = c .before .before .before .before .before .before in let a = q .args in let l : length (a .t .now) ≡ 320 = search needs in c .before .before .copy-at .ensures ∙ splice-whole (a .t .now) (a .table .now) (omega (arith, l, q .pre))
+returns c =
+    let q = c .before .before .before .before .before .before in
+    let a = q .args in
+    let l : length (a .t .now) ≡ 320 = search needs in
+    c .before .before .copy-at .ensures ∙ splice-whole (a .t .now) (a .table .now) (omega (arith, l, q .pre))
 
 pub give-back-spec : {M : Type 1} → statement M
 give-back-spec =

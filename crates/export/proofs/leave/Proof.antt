@@ -14,7 +14,10 @@ returns c = pick-t _ _ _ _ (c .if1 .taken) refl
 
 returns-2 : tie.Need-returns-2
 unfolding tableLeft
-returns-2 c = let a = c .before .before .before .args in let l : length (a .t .now) ≡ 320 = search needs in pick-f _ _ _ _ (c .before .before .if1 .left) (c .put-table .ensures ∙ sym (pick-t _ _ _ _ (eq-eqb _ _ l) refl))
+returns-2 c =
+    let a = c .before .before .before .args in
+    let l : length (a .t .now) ≡ 320 = search needs in
+    pick-f _ _ _ _ (c .before .before .if1 .left) (c .put-table .ensures ∙ sym (pick-t _ _ _ _ (eq-eqb _ _ l) refl))
 
 pub leave-spec : {M : Type 1} → statement M
 leave-spec =

@@ -8,10 +8,14 @@ use Rattle.export.proofs.settle.Statement.{statement}
 use Rattle.export.proofs.settle.Tie as tie
 
 returns : tie.Need-returns
-returns c = let a = c .before .before .before .before .before .args in c .drop-at .ensures ∙ ap tableBytes (pick-t _ _ _ _ (flag (c .before .before .before .before .is-closed .ensures) (c .before .before .before .if1 .taken)) (ap (λ i. droppedAt i (tableOf (a .t .now))) (pick-t _ _ _ _ (c .before .before .if2 .taken) refl)))
+returns c =
+    let a = c .before .before .before .before .before .args in
+    c .drop-at .ensures ∙ ap tableBytes (pick-t _ _ _ _ (flag (c .before .before .before .before .is-closed .ensures) (c .before .before .before .if1 .taken)) (ap (λ i. droppedAt i (tableOf (a .t .now))) (pick-t _ _ _ _ (c .before .before .if2 .taken) refl)))
 
 returns-2 : tie.Need-returns-2
-returns-2 c = let a = c .before .before .before .before .before .args in c .drop-at2 .ensures ∙ ap tableBytes (pick-t _ _ _ _ (flag (c .before .before .before .before .is-closed .ensures) (c .before .before .before .if1 .taken)) (ap (λ i. droppedAt i (tableOf (a .t .now))) (pick-f _ _ _ _ (c .before .before .if2 .left) refl)))
+returns-2 c =
+    let a = c .before .before .before .before .before .args in
+    c .drop-at2 .ensures ∙ ap tableBytes (pick-t _ _ _ _ (flag (c .before .before .before .before .is-closed .ensures) (c .before .before .before .if1 .taken)) (ap (λ i. droppedAt i (tableOf (a .t .now))) (pick-f _ _ _ _ (c .before .before .if2 .left) refl)))
 
 returns-3 : tie.Need-returns-3
 returns-3 c = c .put-back .ensures ∙ ap tableBytes (pick-f _ _ _ _ (flag (c .before .before .before .is-closed .ensures) (c .before .before .if1 .left)) refl)

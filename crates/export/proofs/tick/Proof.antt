@@ -12,7 +12,9 @@ returns : tie.Need-returns
 returns c = c .quiet-tick .ensures
 
 returns-2 : tie.Need-returns-2
-returns-2 c = let a = c .before .before .before .before .before .before .before .before .before .before .before .before .before .before .before .before .args in tick-by-row (a .clock) (a .image .now) (a .answer .now) (a .t .now) (a .area .now) _ (c .before .before .before .before .before .before .tick .result) _ _ _ (c .before .before .before .before .before .before .before .before .row-of .ensures) (c .before .before .before .before .before .before .tick .ensures) (c .before .before .of-tick .ensures) (c .leave .ensures)
+returns-2 c =
+    let a = c .before .before .before .before .before .before .before .before .before .before .before .before .before .before .before .before .args in
+    tick-by-row (a .clock) (a .image .now) (a .answer .now) (a .t .now) (a .area .now) _ (c .before .before .before .before .before .before .tick .result) _ _ _ (c .before .before .before .before .before .before .before .before .row-of .ensures) (c .before .before .before .before .before .before .tick .ensures) (c .before .before .of-tick .ensures) (c .leave .ensures)
 
 pub tick-spec : {M : Type 1} → statement M
 tick-spec =

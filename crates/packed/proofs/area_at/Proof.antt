@@ -10,7 +10,9 @@ use Rattle.packed.proofs.area_at.Tie as tie
 
 returns : tie.Need-returns
 unfolding recordOf
-returns c = let a = c .before .before .args in c .byte .ensures ∙ sym (ap (λ (r : Connection). r .area) (record-there (a .t .now) (fresh 0) (a .i) (c .before .if1 .taken)))
+returns c =
+    let a = c .before .before .args in
+    c .byte .ensures ∙ sym (ap (λ (r : Connection). r .area) (record-there (a .t .now) (fresh 0) (a .i) (c .before .if1 .taken)))
 
 returns-2 : tie.Need-returns-2
 returns-2 c = let a = c .before .args in sym (ap (λ (r : Connection). r .area) (record-past (a .t .now) (fresh 0) (a .i) (c .if1 .left)))

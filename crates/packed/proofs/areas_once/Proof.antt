@@ -26,18 +26,34 @@ loop-holds c = (search needs, search needs, areas-pass (tableOf (c .args .t .now
 
 returns : tie.Need-returns Inv-loop μ-loop
 unfolding recordOf
-returns c = let l = c .before .before .before .before .loop in let a = c .before .before .before .before .before .args in let s = a .t .now in checks-not unseen mark (tableOf s) _ (l .seen) (l .i) (l .inv .2) (fresh 0) (omega (arith, eight s)) (rw (record-there s (fresh 0) (l .i) (omega arith), ← c .before .before .byte .ensures, lt-ltb _ _ (c .before .if1 .taken), c .if2 .taken))
+returns c =
+    let l = c .before .before .before .before .loop in
+    let a = c .before .before .before .before .before .args in
+    let s = a .t .now in
+    checks-not unseen mark (tableOf s) _ (l .seen) (l .i) (l .inv .2) (fresh 0) (omega (arith, eight s)) (rw (record-there s (fresh 0) (l .i) (omega arith), ← c .before .before .byte .ensures, lt-ltb _ _ (c .before .if1 .taken), c .if2 .taken))
 
 returns-2 : tie.Need-returns-2 Inv-loop μ-loop
 unfolding recordOf
-returns-2 c = let l = c .before .before .before .loop in let a = c .before .before .before .before .args in let s = a .t .now in checks-not unseen mark (tableOf s) _ (l .seen) (l .i) (l .inv .2) (fresh 0) (omega (arith, eight s)) (rw (record-there s (fresh 0) (l .i) (omega arith), ← c .before .byte .ensures, le-ltb _ _ (c .if1 .left)))
+returns-2 c =
+    let l = c .before .before .before .loop in
+    let a = c .before .before .before .before .args in
+    let s = a .t .now in
+    checks-not unseen mark (tableOf s) _ (l .seen) (l .i) (l .inv .2) (fresh 0) (omega (arith, eight s)) (rw (record-there s (fresh 0) (l .i) (omega arith), ← c .before .byte .ensures, le-ltb _ _ (c .if1 .left)))
 
 loop-again : tie.Need-loop-again Inv-loop μ-loop
 unfolding recordOf
-loop-again c = let l = c .before .before .before .before .loop in let a = c .before .before .before .before .before .args in let s = a .t .now in (search needs, search needs, checks-more unseen mark (tableOf s) _ (l .seen) (l .i) (l .inv .2) (fresh 0) (omega (arith, eight s)) (rw (record-there s (fresh 0) (l .i) (omega arith), ← c .before .before .byte .ensures, lt-ltb _ _ (c .before .if1 .taken), c .if2 .left)) ∙ ap (λ r. checks unseen mark (mark (l .seen) r) (drop (l .i + 1) (tableOf s))) (record-there s (fresh 0) (l .i) (omega arith)) ∙ ap (λ n. checks unseen mark (set (l .seen) n true) (drop (l .i + 1) (tableOf s))) (sym (c .before .before .byte .ensures)))
+loop-again c =
+    let l = c .before .before .before .before .loop in
+    let a = c .before .before .before .before .before .args in
+    let s = a .t .now in
+    (search needs, search needs, checks-more unseen mark (tableOf s) _ (l .seen) (l .i) (l .inv .2) (fresh 0) (omega (arith, eight s)) (rw (record-there s (fresh 0) (l .i) (omega arith), ← c .before .before .byte .ensures, lt-ltb _ _ (c .before .if1 .taken), c .if2 .left)) ∙ ap (λ r. checks unseen mark (mark (l .seen) r) (drop (l .i + 1) (tableOf s))) (record-there s (fresh 0) (l .i) (omega arith)) ∙ ap (λ n. checks unseen mark (set (l .seen) n true) (drop (l .i + 1) (tableOf s))) (sym (c .before .before .byte .ensures)))
 
 returns-3 : tie.Need-returns-3 Inv-loop μ-loop
-returns-3 c = let l = c .before .loop in let a = c .before .before .args in let s = a .t .now in checks-end unseen mark (tableOf s) _ (l .seen) (l .i) (l .inv .2) (omega (arith, eight s))
+returns-3 c =
+    let l = c .before .loop in
+    let a = c .before .before .args in
+    let s = a .t .now in
+    checks-end unseen mark (tableOf s) _ (l .seen) (l .i) (l .inv .2) (omega (arith, eight s))
 
 pub areas-once-spec : {M : Type 1} → statement M
 areas-once-spec =

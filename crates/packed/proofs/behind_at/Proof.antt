@@ -9,10 +9,16 @@ use Rattle.packed.proofs.behind_at.Statement.{statement}
 use Rattle.packed.proofs.behind_at.Tie as tie
 
 returns : tie.Need-returns
-returns c = let a = c .before .before .before .before .args in let x = at (a .i) (a .t .now) in at-case (λ u. not (u && before (x .client) (a .client))) (flag (c .before .before .before .used-at .ensures) (c .before .before .if1 .taken)) (ap not (c .is-before .ensures ∙ ap (λ k. before k (a .client)) (c .before .client-at .ensures)))
+returns c =
+    let a = c .before .before .before .before .args in
+    let x = at (a .i) (a .t .now) in
+    at-case (λ u. not (u && before (x .client) (a .client))) (flag (c .before .before .before .used-at .ensures) (c .before .before .if1 .taken)) (ap not (c .is-before .ensures ∙ ap (λ k. before k (a .client)) (c .before .client-at .ensures)))
 
 returns-2 : tie.Need-returns-2
-returns-2 c = let a = c .before .before .args in let x = at (a .i) (a .t .now) in at-case (λ u. not (u && before (x .client) (a .client))) (flag (c .before .used-at .ensures) (c .if1 .left)) refl
+returns-2 c =
+    let a = c .before .before .args in
+    let x = at (a .i) (a .t .now) in
+    at-case (λ u. not (u && before (x .client) (a .client))) (flag (c .before .used-at .ensures) (c .if1 .left)) refl
 
 pub behind-at-spec : {M : Type 1} → statement M
 behind-at-spec =

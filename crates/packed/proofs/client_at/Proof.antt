@@ -8,7 +8,9 @@ use Rattle.packed.proofs.client_at.Tie as tie
 
 returns : tie.Need-returns
 unfolding recordOf
-returns c = let a = c .before .before .before .before .before .before .before .before .before .before .args in rw (c .client-in .ensures, c .before .before .before .before .before .before .before .before .before .byte .ensures, c .before .before .before .before .before .before .before .before .byte2 .ensures, c .before .before .before .before .before .before .before .byte3 .ensures, c .before .before .before .before .before .before .byte4 .ensures, c .before .before .before .before .before .byte5 .ensures, c .before .before .before .before .byte6 .ensures, c .before .before .before .byte7 .ensures, c .before .before .byte8 .ensures) (client-spread (bytesOf (a .i) (a .t .now)))
+returns c =
+    let a = c .before .before .before .before .before .before .before .before .before .before .args in
+    rw (c .client-in .ensures, c .before .before .before .before .before .before .before .before .before .byte .ensures, c .before .before .before .before .before .before .before .before .byte2 .ensures, c .before .before .before .before .before .before .before .byte3 .ensures, c .before .before .before .before .before .before .byte4 .ensures, c .before .before .before .before .before .byte5 .ensures, c .before .before .before .before .byte6 .ensures, c .before .before .before .byte7 .ensures, c .before .before .byte8 .ensures) (client-spread (bytesOf (a .i) (a .t .now)))
 
 pub client-at-spec : {M : Type 1} → statement M
 client-at-spec =

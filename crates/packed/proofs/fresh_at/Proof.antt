@@ -8,7 +8,9 @@ use Rattle.packed.proofs.fresh_at.Tie as tie
 
 returns : tie.Need-returns
 unfolding recordOf
-returns c = let a = c .before .before .before .before .before .args in rw (c .before .before .before .before .used-at .ensures, c .before .before .before .nobody-at .ensures, c .before .before .byte .ensures, c .before .byte2 .ensures, c .byte3 .ensures, closed-is (bytesOf (a .i) (a .t .now)))
+returns c =
+    let a = c .before .before .before .before .before .args in
+    rw (c .before .before .before .before .used-at .ensures, c .before .before .before .nobody-at .ensures, c .before .before .byte .ensures, c .before .byte2 .ensures, c .byte3 .ensures, closed-is (bytesOf (a .i) (a .t .now)))
 
 pub fresh-at-spec : {M : Type 1} → statement M
 fresh-at-spec =

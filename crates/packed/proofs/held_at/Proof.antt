@@ -9,10 +9,16 @@ use Rattle.packed.proofs.held_at.Statement.{statement}
 use Rattle.packed.proofs.held_at.Tie as tie
 
 returns : tie.Need-returns
-returns c = let a = c .before .before .before .before .args in let x = at (a .i) (a .t .now) in at-case (λ u. u && sameClient (x .client) (a .client)) (flag (c .before .before .before .used-at .ensures) (c .before .before .if1 .taken)) (c .same-client .ensures ∙ ap (λ k. sameClient k (a .client)) (c .before .client-at .ensures))
+returns c =
+    let a = c .before .before .before .before .args in
+    let x = at (a .i) (a .t .now) in
+    at-case (λ u. u && sameClient (x .client) (a .client)) (flag (c .before .before .before .used-at .ensures) (c .before .before .if1 .taken)) (c .same-client .ensures ∙ ap (λ k. sameClient k (a .client)) (c .before .client-at .ensures))
 
 returns-2 : tie.Need-returns-2
-returns-2 c = let a = c .before .before .args in let x = at (a .i) (a .t .now) in at-case (λ u. u && sameClient (x .client) (a .client)) (flag (c .before .used-at .ensures) (c .if1 .left)) refl
+returns-2 c =
+    let a = c .before .before .args in
+    let x = at (a .i) (a .t .now) in
+    at-case (λ u. u && sameClient (x .client) (a .client)) (flag (c .before .used-at .ensures) (c .if1 .left)) refl
 
 pub held-at-spec : {M : Type 1} → statement M
 held-at-spec =

@@ -19,13 +19,26 @@ abbrev μ-loop : tie.MeasureT-loop
 μ-loop t i₀ i = 7 - i
 
 loop-again : tie.Need-loop-again Inv-loop μ-loop
-loop-again c = let l = c .before .before .before .loop in let a = c .before .before .before .before .args in let s = a .t .now in (search needs, order-more (tableOf s) (l .i) (fresh 0) (l .inv .1) (omega (arith, eight s)) (rw (record-there s (fresh 0) (l .i) (omega arith), record-there s (fresh 0) (l .i + 1) (omega arith)) (flag (c .before .follows-at .ensures) (c .if1 .taken))))
+loop-again c =
+    let l = c .before .before .before .loop in
+    let a = c .before .before .before .before .args in
+    let s = a .t .now in
+    (search needs, order-more (tableOf s) (l .i) (fresh 0) (l .inv .1) (omega (arith, eight s)) (rw (record-there s (fresh 0) (l .i) (omega arith), record-there s (fresh 0) (l .i + 1) (omega arith)) (flag (c .before .follows-at .ensures) (c .if1 .taken))))
 
 returns : tie.Need-returns Inv-loop μ-loop
-returns c = let l = c .before .before .before .loop in let a = c .before .before .before .before .args in let s = a .t .now in order-not (tableOf s) (l .i) (fresh 0) (l .inv .1) (omega (arith, eight s)) (rw (record-there s (fresh 0) (l .i) (omega arith), record-there s (fresh 0) (l .i + 1) (omega arith)) (flag (c .before .follows-at .ensures) (c .if1 .left)))
+returns c =
+    let l = c .before .before .before .loop in
+    let a = c .before .before .before .before .args in
+    let s = a .t .now in
+    order-not (tableOf s) (l .i) (fresh 0) (l .inv .1) (omega (arith, eight s)) (rw (record-there s (fresh 0) (l .i) (omega arith), record-there s (fresh 0) (l .i + 1) (omega arith)) (flag (c .before .follows-at .ensures) (c .if1 .left)))
 
 returns-2 : tie.Need-returns-2 Inv-loop μ-loop
-returns-2 c = let l = c .before .before .before .loop in let a = c .before .before .before .before .args in let s = a .t .now in let e : l .i ≡ 7 = omega arith in rw (c .before .used-at .ensures, c .fresh-at .ensures, ← record-there s (fresh 0) 7 (omega arith)) (order-end (tableOf s) 7 (fresh 0) (rw e at (l .inv .1)) (eight s))
+returns-2 c =
+    let l = c .before .before .before .loop in
+    let a = c .before .before .before .before .args in
+    let s = a .t .now in
+    let e : l .i ≡ 7 = omega arith in
+    rw (c .before .used-at .ensures, c .fresh-at .ensures, ← record-there s (fresh 0) 7 (omega arith)) (order-end (tableOf s) 7 (fresh 0) (rw e at (l .inv .1)) (eight s))
 
 pub is-ordered-spec : {M : Type 1} → statement M
 is-ordered-spec =

@@ -23,10 +23,18 @@ unfolding earliest
 loop-holds c = search needs
 
 loop-again : tie.Need-loop-again Inv-loop μ-loop
-loop-again c = let l = c .before .before .before .loop in let a = c .before .before .before .before .args in let s = a .t .now in (search needs, rw (c .earlier .ensures, c .before .deadline-at .ensures, ← record-there s (fresh 0) (l .i) (omega arith)) (fold-more (λ e r. earlier e (deadlineOf r)) (tableOf s) _ (l .d) (l .i) (l .inv .1) (fresh 0) (omega (arith, eight s))))
+loop-again c =
+    let l = c .before .before .before .loop in
+    let a = c .before .before .before .before .args in
+    let s = a .t .now in
+    (search needs, rw (c .earlier .ensures, c .before .deadline-at .ensures, ← record-there s (fresh 0) (l .i) (omega arith)) (fold-more (λ e r. earlier e (deadlineOf r)) (tableOf s) _ (l .d) (l .i) (l .inv .1) (fresh 0) (omega (arith, eight s))))
 
 returns : tie.Need-returns Inv-loop μ-loop
-returns c = let l = c .before .loop in let a = c .before .before .args in let s = a .t .now in fold-end (λ e r. earlier e (deadlineOf r)) (tableOf s) _ (l .d) (l .i) (l .inv .1) (omega (arith, eight s))
+returns c =
+    let l = c .before .loop in
+    let a = c .before .before .args in
+    let s = a .t .now in
+    fold-end (λ e r. earlier e (deadlineOf r)) (tableOf s) _ (l .d) (l .i) (l .inv .1) (omega (arith, eight s))
 
 pub next-deadline-spec : {M : Type 1} → statement M
 next-deadline-spec =

@@ -22,14 +22,26 @@ abbrev μ-loop : tie.MeasureT-loop
 
 returns : tie.Need-returns Inv-loop μ-loop
 unfolding placeOf
-returns c = let l = c .before .before .before .loop in let a = c .before .before .before .before .args in let s = a .t .now in first-here (holds (a .client)) (tableOf s) (l .i) (fresh 0) (omega (arith, eight s)) (ap (holds (a .client)) (record-there s (fresh 0) (l .i) (omega arith)) ∙ flag (c .before .held-at .ensures) (c .if1 .taken)) (l .inv .1)
+returns c =
+    let l = c .before .before .before .loop in
+    let a = c .before .before .before .before .args in
+    let s = a .t .now in
+    first-here (holds (a .client)) (tableOf s) (l .i) (fresh 0) (omega (arith, eight s)) (ap (holds (a .client)) (record-there s (fresh 0) (l .i) (omega arith)) ∙ flag (c .before .held-at .ensures) (c .if1 .taken)) (l .inv .1)
 
 loop-again : tie.Need-loop-again Inv-loop μ-loop
-loop-again c = let l = c .before .before .before .loop in let a = c .before .before .before .before .args in let s = a .t .now in (search needs, first-more (holds (a .client)) (tableOf s) (l .i) (fresh 0) (omega (arith, eight s)) (ap (holds (a .client)) (record-there s (fresh 0) (l .i) (omega arith)) ∙ flag (c .before .held-at .ensures) (c .if1 .left)) (l .inv .1))
+loop-again c =
+    let l = c .before .before .before .loop in
+    let a = c .before .before .before .before .args in
+    let s = a .t .now in
+    (search needs, first-more (holds (a .client)) (tableOf s) (l .i) (fresh 0) (omega (arith, eight s)) (ap (holds (a .client)) (record-there s (fresh 0) (l .i) (omega arith)) ∙ flag (c .before .held-at .ensures) (c .if1 .left)) (l .inv .1))
 
 returns-2 : tie.Need-returns-2 Inv-loop μ-loop
 unfolding placeOf
-returns-2 c = let l = c .before .loop in let a = c .before .before .args in let s = a .t .now in first-none (holds (a .client)) (tableOf s) (l .i) (omega (arith, eight s)) (l .inv .1)
+returns-2 c =
+    let l = c .before .loop in
+    let a = c .before .before .args in
+    let s = a .t .now in
+    first-none (holds (a .client)) (tableOf s) (l .i) (omega (arith, eight s)) (l .inv .1)
 
 pub place-of-spec : {M : Type 1} → statement M
 place-of-spec =

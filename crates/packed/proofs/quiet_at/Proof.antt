@@ -9,7 +9,10 @@ use Rattle.packed.proofs.quiet_at.Tie as tie
 
 returns : tie.Need-returns
 unfolding recordOf
-returns c = let a = c .before .before .before .before .args in let x = at (a .i) (a .t .now) in rw (c .before .before .is-past .ensures, c .before .before .before .deadline-at .ensures, past-used (a .clock) (x .used) (transferDeadline (x .state)), c .before .used-at .ensures, c .byte .ensures, closed-is (bytesOf (a .i) (a .t .now)))
+returns c =
+    let a = c .before .before .before .before .args in
+    let x = at (a .i) (a .t .now) in
+    rw (c .before .before .is-past .ensures, c .before .before .before .deadline-at .ensures, past-used (a .clock) (x .used) (transferDeadline (x .state)), c .before .used-at .ensures, c .byte .ensures, closed-is (bytesOf (a .i) (a .t .now)))
 
 pub quiet-at-spec : {M : Type 1} → statement M
 quiet-at-spec =

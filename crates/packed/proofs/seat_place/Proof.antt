@@ -22,14 +22,26 @@ abbrev μ-loop : tie.MeasureT-loop
 
 returns : tie.Need-returns Inv-loop μ-loop
 unfolding seatPlace
-returns c = let l = c .before .before .before .loop in let a = c .before .before .before .before .args in let s = a .t .now in first-here (isBehind (a .client)) (tableOf s) (l .i) (fresh 0) (omega (arith, eight s)) (ap (isBehind (a .client)) (record-there s (fresh 0) (l .i) (omega arith)) ∙ flag (c .before .behind-at .ensures) (c .if1 .taken)) (l .inv .1)
+returns c =
+    let l = c .before .before .before .loop in
+    let a = c .before .before .before .before .args in
+    let s = a .t .now in
+    first-here (isBehind (a .client)) (tableOf s) (l .i) (fresh 0) (omega (arith, eight s)) (ap (isBehind (a .client)) (record-there s (fresh 0) (l .i) (omega arith)) ∙ flag (c .before .behind-at .ensures) (c .if1 .taken)) (l .inv .1)
 
 loop-again : tie.Need-loop-again Inv-loop μ-loop
-loop-again c = let l = c .before .before .before .loop in let a = c .before .before .before .before .args in let s = a .t .now in (search needs, first-more (isBehind (a .client)) (tableOf s) (l .i) (fresh 0) (omega (arith, eight s)) (ap (isBehind (a .client)) (record-there s (fresh 0) (l .i) (omega arith)) ∙ flag (c .before .behind-at .ensures) (c .if1 .left)) (l .inv .1))
+loop-again c =
+    let l = c .before .before .before .loop in
+    let a = c .before .before .before .before .args in
+    let s = a .t .now in
+    (search needs, first-more (isBehind (a .client)) (tableOf s) (l .i) (fresh 0) (omega (arith, eight s)) (ap (isBehind (a .client)) (record-there s (fresh 0) (l .i) (omega arith)) ∙ flag (c .before .behind-at .ensures) (c .if1 .left)) (l .inv .1))
 
 returns-2 : tie.Need-returns-2 Inv-loop μ-loop
 unfolding seatPlace
-returns-2 c = let l = c .before .loop in let a = c .before .before .args in let s = a .t .now in first-none (isBehind (a .client)) (tableOf s) (l .i) (omega (arith, eight s)) (l .inv .1)
+returns-2 c =
+    let l = c .before .loop in
+    let a = c .before .before .args in
+    let s = a .t .now in
+    first-none (isBehind (a .client)) (tableOf s) (l .i) (omega (arith, eight s)) (l .inv .1)
 
 pub seat-place-spec : {M : Type 1} → statement M
 seat-place-spec =

@@ -12,11 +12,15 @@ use Rattle.packed.proofs.transfer_time.Tie as tie
 
 returns : tie.Need-returns
 unfolding recordOf
-returns c = let a = c .before .before .args in pick-t _ _ _ _ (ap (λ n. ltb n 3) (sym (c .before .byte .ensures)) ∙ lt-ltb _ _ (c .if1 .taken)) refl ∙ sym (time-is (bytesOf (a .i) (a .t .now)))
+returns c =
+    let a = c .before .before .args in
+    pick-t _ _ _ _ (ap (λ n. ltb n 3) (sym (c .before .byte .ensures)) ∙ lt-ltb _ _ (c .if1 .taken)) refl ∙ sym (time-is (bytesOf (a .i) (a .t .now)))
 
 returns-2 : tie.Need-returns-2
 unfolding recordOf
-returns-2 c = let a = c .before .before .before .args in pick-f _ _ _ _ (ap (λ n. ltb n 3) (sym (c .before .before .byte .ensures)) ∙ le-ltb _ _ (c .before .if1 .left)) (c .due-time .ensures) ∙ sym (time-is (bytesOf (a .i) (a .t .now)))
+returns-2 c =
+    let a = c .before .before .before .args in
+    pick-f _ _ _ _ (ap (λ n. ltb n 3) (sym (c .before .before .byte .ensures)) ∙ le-ltb _ _ (c .before .if1 .left)) (c .due-time .ensures) ∙ sym (time-is (bytesOf (a .i) (a .t .now)))
 
 pub transfer-time-spec : {M : Type 1} → statement M
 transfer-time-spec =

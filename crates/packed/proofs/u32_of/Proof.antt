@@ -7,7 +7,9 @@ use Rattle.packed.proofs.u32_of.Statement.{statement}
 use Rattle.packed.proofs.u32_of.Tie as tie
 
 returns : tie.Need-returns
-returns c = let a = c .before .before .args in c .u32-at .ensures ∙ sym (number-in 4 (a .k) (40 * a .i) (a .t .now) (c .before .before .pre .1))
+returns c =
+    let a = c .before .before .args in
+    c .u32-at .ensures ∙ sym (number-in 4 (a .k) (40 * a .i) (a .t .now) (c .before .before .pre .1))
 
 pub u32-of-spec : {M : Type 1} → statement M
 u32-of-spec =

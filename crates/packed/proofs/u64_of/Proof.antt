@@ -7,7 +7,9 @@ use Rattle.packed.proofs.u64_of.Statement.{statement}
 use Rattle.packed.proofs.u64_of.Tie as tie
 
 returns : tie.Need-returns
-returns c = let a = c .before .before .args in c .u64-at .ensures ∙ sym (number-in 8 (a .k) (40 * a .i) (a .t .now) (c .before .before .pre .1))
+returns c =
+    let a = c .before .before .args in
+    c .u64-at .ensures ∙ sym (number-in 8 (a .k) (40 * a .i) (a .t .now) (c .before .before .pre .1))
 
 pub u64-of-spec : {M : Type 1} → statement M
 u64-of-spec =

@@ -26,7 +26,9 @@ returns : tie.Need-returns Inv-loop μ-loop
 returns c t = not-both t refl
 
 loop-again : tie.Need-loop-again Inv-loop μ-loop
-loop-again c = let l = c .before .before .before .loop in (search needs, same-more (l .i) _ (l .inv .1) (c .before .plain-record .ensures (not-false _ (c .if1 .left))))
+loop-again c =
+    let l = c .before .before .before .loop in
+    (search needs, same-more (l .i) _ (l .inv .1) (c .before .plain-record .ensures (not-false _ (c .if1 .left))))
 
 returns-2 : tie.Need-returns-2 Inv-loop μ-loop
 returns-2 c t = let l = c .before .loop in same-table _ (c .before .before .before .pre .0) (λ j h. l .inv .1 j (omega arith))

@@ -6,7 +6,9 @@ use Rattle.packing.proofs.plain_record.Statement.{statement}
 use Rattle.packing.proofs.plain_record.Tie as tie
 
 returns : tie.Need-returns
-returns c = let a = c .before .before .before .before .before .args in record-plain (a .at) (a .s .now) (c .before .before .before .before .before .pre) _ _ _ _ refl refl (c .before .plain-client .ensures) (c .plain-state .ensures)
+returns c =
+    let a = c .before .before .before .before .before .args in
+    record-plain (a .at) (a .s .now) (c .before .before .before .before .before .pre) _ _ _ _ refl refl (c .before .plain-client .ensures) (c .plain-state .ensures)
 
 pub plain-record-spec : {M : Type 1} → statement M
 plain-record-spec =

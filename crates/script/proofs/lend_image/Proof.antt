@@ -12,7 +12,9 @@ use Rattle.script.proofs.lend_image.Tie as tie
 
 returns : tie.Need-returns
 unfolding imageLent imageStored
-returns c = let f = ap (λ n. leb n 131072) (sym (c .before .before .u32-at .ensures)) ∙ lt-leb _ _ (c .before .if1 .taken) in (pick-f _ _ _ _ f (c .unknown .ensures), pick-f _ _ _ _ f refl)
+returns c =
+    let f = ap (λ n. leb n 131072) (sym (c .before .before .u32-at .ensures)) ∙ lt-leb _ _ (c .before .if1 .taken) in
+    (pick-f _ _ _ _ f (c .unknown .ensures), pick-f _ _ _ _ f refl)
 
 returns-2 : tie.Need-returns-2
 unfolding imageLent imageStored

@@ -8,11 +8,15 @@ use Rattle.script.proofs.lend_lengths.Tie as tie
 
 returns : tie.Need-returns
 unfolding lengthsLent
-returns c = let b = c .before .before in pick-t _ _ _ _ (rw (b .byte-at .ensures, b .before .u32-at2 .ensures, b .before .before .u32-at .ensures) at (c .before .if1 .taken)) (c .lends .ensures ∙ rw (b .byte-at .ensures, b .before .u32-at2 .ensures, b .before .before .u32-at .ensures))
+returns c =
+    let b = c .before .before in
+    pick-t _ _ _ _ (rw (b .byte-at .ensures, b .before .u32-at2 .ensures, b .before .before .u32-at .ensures) at (c .before .if1 .taken)) (c .lends .ensures ∙ rw (b .byte-at .ensures, b .before .u32-at2 .ensures, b .before .before .u32-at .ensures))
 
 returns-2 : tie.Need-returns-2
 unfolding lengthsLent
-returns-2 c = let b = c .before .before in pick-f _ _ _ _ (rw (b .byte-at .ensures, b .before .u32-at2 .ensures, b .before .before .u32-at .ensures) at (c .before .if1 .left)) (c .unknown .ensures)
+returns-2 c =
+    let b = c .before .before in
+    pick-f _ _ _ _ (rw (b .byte-at .ensures, b .before .u32-at2 .ensures, b .before .before .u32-at .ensures) at (c .before .if1 .left)) (c .unknown .ensures)
 
 pub lend-lengths-spec : {M : Type 1} → statement M
 lend-lengths-spec =

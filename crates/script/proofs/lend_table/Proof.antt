@@ -9,7 +9,9 @@ use Rattle.script.proofs.lend_table.Tie as tie
 
 returns : tie.Need-returns
 unfolding tableLent
-returns c = let e = c .before .before .before .before .rest .ensures in pick-t _ _ _ _ (flag (c .before .before .before .is-table .ensures ∙ ap isTable e) (c .before .before .if1 .taken)) (c .lends .ensures ∙ rw (c .before .table-of .ensures, e))
+returns c =
+    let e = c .before .before .before .before .rest .ensures in
+    pick-t _ _ _ _ (flag (c .before .before .before .is-table .ensures ∙ ap isTable e) (c .before .before .if1 .taken)) (c .lends .ensures ∙ rw (c .before .table-of .ensures, e))
 
 returns-2 : tie.Need-returns-2
 unfolding tableLent
