@@ -9,6 +9,7 @@ use protocol::ReceiveConnState;
 use protocol::RecordTicked;
 use protocol::Refusal;
 use protocol::Resend;
+use protocol::SdoClientInfo;
 use protocol::SdoResponseData;
 use protocol::SdoServerState;
 use protocol::SdoTransferState;
@@ -85,11 +86,85 @@ fn answer_mark(aborted: bool, mark: SendConnState) -> SendConnState
     mark
 }
 
+// A client made anew of its parts, as the next four are: see `rebuilt`.
+fn rebuilt_client(client: SdoClientInfo) -> SdoClientInfo
+    ensures { λ r. ⌜ r ≡ client ⌝ }
+{
+    match client {
+        SdoClientInfo::Asnd { node, mac } => SdoClientInfo::Asnd {
+            node: node,
+            mac: mac,
+        },
+        SdoClientInfo::Udp { ip, port } => SdoClientInfo::Udp { ip: ip, port: port },
+    }
+}
+
+// A deadline.
+fn rebuilt_deadline(d: Deadline) -> Deadline
+    ensures { λ r. ⌜ r ≡ d ⌝ }
+{
+    match d {
+        Deadline::NoDeadline => Deadline::NoDeadline,
+        Deadline::At(time) => Deadline::At(time),
+    }
+}
+
+// A transfer.
+fn rebuilt_transfer(t: SdoTransferState) -> SdoTransferState
+    ensures { λ r. ⌜ r ≡ t ⌝ }
+{
+    let deadline = t.deadline;
+    SdoTransferState {
+        transaction: t.transaction,
+        total: t.total,
+        offset: t.offset,
+        index: t.index,
+        sub: t.sub,
+        deadline: rebuilt_deadline(deadline),
+        retries: t.retries,
+        stored: t.stored,
+    }
+}
+
+// A state.
+fn rebuilt_state(s: SdoServerState) -> SdoServerState
+    ensures { λ r. ⌜ r ≡ s ⌝ }
+{
+    match s {
+        SdoServerState::Closed => SdoServerState::Closed,
+        SdoServerState::Opening => SdoServerState::Opening,
+        SdoServerState::Established => SdoServerState::Established,
+        SdoServerState::SegmentedDownload(t) => {
+            SdoServerState::SegmentedDownload(rebuilt_transfer(t))
+        }
+        SdoServerState::SegmentedUpload(t) => {
+            SdoServerState::SegmentedUpload(rebuilt_transfer(t))
+        }
+    }
+}
+
+// The same record, made anew of its parts. A compiler copies a whole value with the gaps between its fields, in moves that overlap, and a processor waits where it loads what it has just stored so; a record made of its parts has nothing in its gaps (docs/SPEED.md).
+fn rebuilt(c: Connection) -> Connection
+    ensures { λ r. ⌜ r ≡ c ⌝ }
+{
+    let client = c.client;
+    let state = c.state;
+    Connection {
+        used: c.used,
+        client: rebuilt_client(client),
+        area: c.area,
+        send: c.send,
+        receive: c.receive,
+        state: rebuilt_state(state),
+    }
+}
+
 // The answer under the sequence step's header, with the receive number after the call.
 fn answered(r: SequenceLayerHeader, a: Action) -> Handled
     ensures { λ res. ⌜ ((share image : List ℕ) → toldHandled res share image ≡ answered r (toldAction a share image)) ⌝ }
 {
-    let c = a.connection;
+    let left = a.connection;
+    let c = rebuilt(left);
     let m = a.command;
     let body = a.body;
     let h = m.header;
@@ -209,7 +284,7 @@ fn on_step(
 {
     let step = stepping::sequence_step(c, h);
     match step {
-        Step::Stepped(next, r) => after_step(next, share, image, clock, h, r, body),
+        Step::Stepped(next, r) => after_step(rebuilt(next), share, image, clock, h, r, body),
         Step::Misfit(next) => Handled::Refused(next, Refusal::Sequence),
     }
 }

@@ -180,8 +180,6 @@ pub fn sequence_step(c: Connection, h: SequenceLayerHeader) -> Step
     match s {
         SdoServerState::Closed => closed_step(c, h),
         SdoServerState::Opening => opening_step(c, h),
-        SdoServerState::Established => later_step(c, h),
-        SdoServerState::SegmentedDownload(t) => later_step(c, h),
-        SdoServerState::SegmentedUpload(t) => later_step(c, h),
+        _ => later_step(c, h),
     }
 }

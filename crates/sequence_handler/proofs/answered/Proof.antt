@@ -1,4 +1,4 @@
--- The mark alone is computed.
+-- The mark alone is computed; the record is the same.
 use Rattle.protocol.specs.ConnectionRecord.{answered}
 use borrow.Author.Needs.{needs}
 use Rattle.sequence_handler.proofs.answered.Statement.{statement}
@@ -6,7 +6,7 @@ use Rattle.sequence_handler.proofs.answered.Tie as tie
 
 returns : tie.Need-returns
 unfolding answered
-returns c = λ share image. rw (c .answer-mark .ensures)
+returns c = λ share image. rw (c .answer-mark .ensures, c .before .before .before .rebuilt .ensures)
 
 pub answered-spec : {M : Type 1} → statement M
-answered-spec = tie.close (tie.spec (λ c κs. search needs) returns)
+answered-spec = tie.close (tie.spec (λ c κs. search needs) (λ c κs. search needs) returns)

@@ -9,8 +9,8 @@ use Rattle.sequence_handler.proofs.on_step.Tie as tie
 returns : tie.Need-returns
 unfolding onStep
 returns c =
-    let a = c .before .before .before .before .before .before .before .before .before .before .before .before .before .before .args in
-    λ request e. rw (← c .before .before .before .before .before .before .before .before .before .before .sequence-step .ensures) (at-case (λ s. onStep (a .c) (a .share .now) (a .image .now) (a .clock) request (a .h) (toldStep s)) (c .before .before .before .before .before .before .before .before .step .given .1) (c .before .before .before .before .after-step .ensures ∙ ap (afterStep _ (a .share .now) (a .image .now) (a .clock) (a .h) _) e))
+    let a = c .before .before .before .before .before .before .before .before .before .before .before .before .before .before .before .args in
+    λ request e. rw (← c .before .before .before .before .before .before .before .before .before .before .before .sequence-step .ensures) (at-case (λ s. onStep (a .c) (a .share .now) (a .image .now) (a .clock) request (a .h) (toldStep s)) (c .before .before .before .before .before .before .before .before .before .step .given .1) (rw (← c .before .before .before .before .before .before .before .rebuilt .ensures) (c .before .before .before .before .after-step .ensures ∙ ap (afterStep _ (a .share .now) (a .image .now) (a .clock) (a .h) _) e)))
 
 returns-2 : tie.Need-returns-2
 unfolding onStep
@@ -24,6 +24,7 @@ on-step-spec =
     (tie.spec
     (λ c κs. search needs)
     (λ c. search needs)
+    (λ c κs. search needs)
     (λ c κs. search needs)
     (λ c. search needs)
     (λ c. search needs)
