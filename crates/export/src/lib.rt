@@ -275,6 +275,16 @@ fn handle_request(
     }
 }
 
+// The table's bytes where 320 are lent.
+fn lent_bytes(table: &[u8]) -> [u8; 320]
+    requires { ⌜ length (now table) ≡ 320 ⌝ }
+    ensures { λ r. ⌜ r ≡ now (table .entry) ⌝ }
+{
+    let mut t = [0; 320];
+    octets::copy_at(&mut t, 0, table);
+    t
+}
+
 // The table's bytes are stored where 320 are lent.
 fn give_back(table: &mut [u8], t: &[u8; 320])
     requires { ⌜ length (now table) ≡ 320 ⌝ }
@@ -301,8 +311,7 @@ pub extern "C" fn sdo_handle_request(
     }
     let mut who = [0; 8];
     octets::store_u64(&mut who, 0, client);
-    let mut t = [0; 320];
-    octets::copy_at(&mut t, 0, table);
+    let mut t = lent_bytes(table);
     let told = handle_request(&mut t, area, image, answer, &who, clock, request);
     give_back(table, &t);
     told
@@ -386,8 +395,7 @@ pub extern "C" fn sdo_tick<'a>(
     if table.len() != 320 {
         return only(1);
     }
-    let mut t = [0; 320];
-    octets::copy_at(&mut t, 0, table);
+    let mut t = lent_bytes(table);
     let told = tick(&mut t, area, image, answer, clock);
     give_back(table, &t);
     told
@@ -401,8 +409,7 @@ pub extern "C" fn sdo_next_action_time(table: &[u8]) -> SdoDeadline
     if table.len() != 320 {
         return SdoDeadline { outcome: 1, at: 0 };
     }
-    let mut t = [0; 320];
-    octets::copy_at(&mut t, 0, table);
+    let t = lent_bytes(table);
     if packed::is_sound(&t) {
         return of_query(server::next_action(packed::next_deadline(&t)));
     }

@@ -1,8 +1,6 @@
 -- Refused by the length, or the earliest deadline of the bytes.
 use Rattle.export.specs.Exported.{queryBytes}
 use Rattle.export.proofs.Through.{query-sound-bytes, query-unsound-bytes}
-use Rattle.record.proofs.Writing.{splice-whole}
-use lib.ListN.{replicate}
 use mathlib.Core.Path.{refl, _∙_}
 use borrow.Author.Tests.{ne-eqb}
 use Rattle.picks.proofs.Picks.{flag, pick-f}
@@ -15,27 +13,16 @@ unfolding queryBytes
 returns c = pick-f _ _ _ _ (ne-eqb _ _ (c .if1 .taken)) refl
 
 returns-2 : tie.Need-returns-2
-returns-2 c =
-    let a = c .before .before .before .before .before .before .before .before .before .before .before .before .args in
-    let long = c .before .before .before .before .before .before .before .before .before .before .if1 .left in
-    let t = a .table .now in
-    let e = c .before .before .before .before .before .before .before .before .copy-at .ensures ∙ splice-whole t (replicate 320 0) long in
-    c .of-query .ensures ∙ query-sound-bytes t _ _ _ long e (c .before .before .next-deadline .ensures) (c .before .next-action .ensures) (flag (c .before .before .before .before .before .is-sound .ensures) (c .before .before .before .before .if2 .taken))
+returns-2 c = c .of-query .ensures ∙ query-sound-bytes _ _ _ _ (c .before .before .before .before .before .before .before .before .if1 .left) (c .before .before .before .before .before .before .before .lent-bytes .ensures) (c .before .before .next-deadline .ensures) (c .before .next-action .ensures) (flag (c .before .before .before .before .before .is-sound .ensures) (c .before .before .before .before .if2 .taken))
 
 returns-3 : tie.Need-returns-3
-returns-3 c =
-    let a = c .before .before .before .before .before .before .before .before .before .args in
-    let long = c .before .before .before .before .before .before .before .if1 .left in
-    let t = a .table .now in
-    let e = c .before .before .before .before .before .copy-at .ensures ∙ splice-whole t (replicate 320 0) long in
-    c .of-query2 .ensures ∙ query-unsound-bytes t _ long e (flag (c .before .before .is-sound .ensures) (c .before .if2 .left))
+returns-3 c = c .of-query2 .ensures ∙ query-unsound-bytes _ _ (c .before .before .before .before .before .if1 .left) (c .before .before .before .before .lent-bytes .ensures) (flag (c .before .before .is-sound .ensures) (c .before .if2 .left))
 
 pub sdo-next-action-time-spec : {M : Type 1} → statement M
 sdo-next-action-time-spec =
     tie.close
     (tie.spec
     returns
-    (λ c. search needs)
     (λ c κs. search needs)
     (λ c κs. search needs)
     (λ c κs. search needs)

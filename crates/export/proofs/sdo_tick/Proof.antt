@@ -1,9 +1,6 @@
 -- Refused by the length, or the tick on a copy of the bytes.
 use Rattle.export.specs.Exported.{tickBytes}
 use Rattle.export.proofs.Through.{tick-through}
-use Rattle.record.proofs.Writing.{splice-whole}
-use lib.ListN.{replicate}
-use mathlib.Core.Path.{_∙_}
 use borrow.Author.Tests.{ne-eqb}
 use Rattle.picks.proofs.Picks.{pick-f}
 use borrow.Author.Needs.{needs}
@@ -15,13 +12,10 @@ unfolding tickBytes
 returns c = pick-f _ _ _ _ (ne-eqb _ _ (c .before .if1 .taken)) (rw (c .only .ensures))
 
 give-back-requires : tie.Need-give-back-requires
-give-back-requires c κs = c .before .before .before .before .before .before .before .before .before .before .before .if1 .left
+give-back-requires c κs = c .before .before .before .before .before .before .before .before .before .if1 .left
 
 returns-2 : tie.Need-returns-2
-returns-2 c =
-    let a = c .before .before .before .before .before .before .before .before .before .before .before .before .before .before .before .before .before .before .before .args in
-    let long = c .before .before .before .before .before .before .before .before .before .before .before .before .before .before .if1 .left in
-    tick-through _ _ _ (a .table .now) _ _ _ _ _ _ long (c .before .before .before .before .before .before .before .before .before .before .before .copy-at .ensures ∙ splice-whole (a .table .now) (replicate 320 0) long) (c .before .before .before .before .before .before .before .tick .ensures) (c .before .before .give-back .ensures)
+returns-2 c = tick-through _ _ _ _ _ _ _ _ _ _ (c .before .before .before .before .before .before .before .before .before .before .before .before .if1 .left) (c .before .before .before .before .before .before .before .before .before .before .lent-bytes .ensures) (c .before .before .before .before .before .before .before .tick .ensures) (c .before .before .give-back .ensures)
 
 pub sdo-tick-spec : {M : Type 1} → statement M
 sdo-tick-spec =
@@ -29,7 +23,6 @@ sdo-tick-spec =
     (tie.spec
     (λ c κs. search needs)
     returns
-    (λ c. search needs)
     (λ c κs. search needs)
     (λ c κs. search needs)
     give-back-requires
