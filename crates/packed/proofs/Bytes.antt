@@ -15,11 +15,11 @@ use Rattle.picks.proofs.Keep.{by-test, not-both}
 use Rattle.octets.specs.Octets.{le}
 use Rattle.protocol.specs.declared.SdoClientInfo.the-variants.{Asnd, Udp}
 use Rattle.protocol.specs.declared.Deadline.{Deadline}
-use Rattle.protocol.specs.declared.Deadline.the-variants.{NoDeadline}
+use Rattle.protocol.specs.declared.Deadline.the-variants.{NoDeadline, At}
 use Rattle.protocol.specs.declared.SdoServerState.{SdoServerState}
 use Rattle.protocol.specs.declared.SdoServerState.the-variants.{Closed, Opening, Established, SegmentedDownload, SegmentedUpload}
 use Rattle.protocol.specs.declared.Connection.{Connection}
-use Rattle.protocol.specs.ConnectionTable.{sameClient, isClosed, soundUpload, soundDownload, soundState, transferDeadline, isPast}
+use Rattle.protocol.specs.ConnectionTable.{sameClient, isClosed, soundUpload, soundDownload, soundState, transferDeadline, isPast, earlier}
 use Rattle.record.specs.Format.{byteAt, numberAt, big, clientOf, transferOf, stateOf, rows, tableOf}
 use Rattle.record.proofs.Reading.{number-more}
 use Rattle.packed.specs.Packed.{at, dueTime}
@@ -111,6 +111,11 @@ pub past-used : (clock : ℕ) (u : Bool) (d : Deadline) → isPast clock (pick u
 unfolding pick
 past-used clock true d = refl
 past-used clock false d = refl
+
+-- a deadline beside none stays
+pub earlier-none : (d : Deadline) → earlier d NoDeadline ≡ d
+earlier-none NoDeadline = refl
+earlier-none (At n) = refl
 
 -- eight bytes are 0 exactly if their number is
 next-byte : (n k : ℕ) (x : List ℕ) → le (take (suc n) (drop k x)) ≡ byteAt k x + 256 * le (take n (drop (k + 1) x))

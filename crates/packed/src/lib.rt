@@ -4,7 +4,7 @@ use protocol::Deadline;
 use protocol::SdoClientInfo;
 use protocol::SdoTransferState;
 ghost use mathlib.Core.Path.{_≡_};
-ghost use mathlib.Core.Bool.{_&&_};
+ghost use mathlib.Core.Bool.{true, _&&_};
 ghost use Prim.Native.Nat.{_+_, _<_, _≤_};
 ghost use lib.ListN.{getD};
 ghost use Rattle.picks.specs.Pick.{every};
@@ -206,16 +206,21 @@ fn sound_at(t: &[u8; 320], i: usize) -> bool
     (byte(t, i, 10) <= 63) & (byte(t, i, 11) <= 63) & state_sound(t, i)
 }
 
-// Whether every record is sound.
+// Whether every record of an ordered table is sound: the unused ones are fresh, which is sound.
 fn records_sound(t: &[u8; 320]) -> bool
+    requires { ⌜ ordered (tableOf (now t)) ≡ true ⌝ }
     ensures { λ r. ⌜ r ≡ every soundRecord (tableOf (now (t .entry))) ⌝ }
 {
     let mut i = 0;
     while i < 8 {
-        if sound_at(t, i) {
-            i += 1;
+        if used_at(t, i) {
+            if sound_at(t, i) {
+                i += 1;
+            } else {
+                return false;
+            }
         } else {
-            return false;
+            return true;
         }
     }
     true
@@ -226,10 +231,11 @@ pub fn is_sound(t: &[u8; 320]) -> bool
     ensures { λ r. ⌜ r ≡ (isTable (now (t .entry)) && soundTable (tableOf (now (t .entry)))) ⌝ }
 {
     if record::is_table(t) {
-        let a = is_ordered(t);
-        let b = areas_once(t);
-        let c = records_sound(t);
-        return a & b & c;
+        if is_ordered(t) {
+            if areas_once(t) {
+                return records_sound(t);
+            }
+        }
     }
     false
 }
@@ -328,7 +334,9 @@ pub fn next_deadline(t: &[u8; 320]) -> Deadline
     let mut d = Deadline::NoDeadline;
     let mut i = 0;
     while i < 8 {
-        d = table::earlier(d, deadline_at(t, i));
+        if used_at(t, i) {
+            d = table::earlier(d, transfer_time(t, i));
+        }
         i += 1;
     }
     d

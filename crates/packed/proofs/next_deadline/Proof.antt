@@ -1,11 +1,14 @@
--- A fold over the records.
+-- A fold over the records, in which an unused one changes nothing.
 use Rattle.protocol.specs.ConnectionTable.{fresh, earlier, deadlineOf, earliest}
 use Rattle.record.specs.Format.{tableOf}
-use Rattle.packed.proofs.Bytes.{eight, record-there}
+use Rattle.packed.specs.Packed.{at}
+use Rattle.packed.proofs.Bytes.{eight, record-there, earlier-none}
+use Rattle.picks.proofs.Picks.{flag, pick-t, pick-f}
 use Rattle.picks.proofs.Fold.{fold-more, fold-end}
 use Rattle.picks.specs.Pick.{fold}
 use lib.ListN.{drop}
-use mathlib.Core.Path.{_≡_}
+use mathlib.Core.Logic.{⊎-elim}
+use mathlib.Core.Path.{_≡_, refl, sym, ap, _∙_}
 use Prim.Native.Nat.{_-_, _≤_}
 use borrow.Author.Needs.{needs}
 use native.Mathlib.Omega.{arith}
@@ -27,7 +30,13 @@ loop-again c =
     let l = c .before .before .before .loop in
     let a = c .before .before .before .before .args in
     let s = a .t .now in
-    (search needs, rw (c .earlier .ensures, c .before .deadline-at .ensures, ← record-there s (fresh 0) (l .i) (omega arith)) (fold-more (λ e r. earlier e (deadlineOf r)) (tableOf s) _ (l .d) (l .i) (l .inv .1) (fresh 0) (omega (arith, eight s))))
+    let used = c .before .used-at .ensures in
+    let e : c .if1 .d ≡ earlier (l .d) (deadlineOf (at (l .i) s)) =
+    ⊎-elim
+    (λ w. w .3 ∙ w .2 .ensures ∙ ap (earlier (l .d)) (w .1 .ensures ∙ pick-t _ _ _ _ (flag used (w .0 .taken)) refl))
+    (λ w. w .1 ∙ sym (earlier-none (l .d)) ∙ ap (earlier (l .d)) (pick-f _ _ _ _ (flag used (w .0 .left)) refl))
+    (c .if1 .came) in
+    (search needs, rw (e, ← record-there s (fresh 0) (l .i) (omega arith)) (fold-more (λ e r. earlier e (deadlineOf r)) (tableOf s) _ (l .d) (l .i) (l .inv .1) (fresh 0) (omega (arith, eight s))))
 
 returns : tie.Need-returns Inv-loop μ-loop
 returns c =
@@ -43,6 +52,7 @@ next-deadline-spec =
     Inv-loop
     μ-loop
     loop-holds
+    (λ c κs. search needs)
     (λ c κs. search needs)
     (λ c κs. search needs)
     (λ c. search needs)
