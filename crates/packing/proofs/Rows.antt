@@ -4,9 +4,9 @@ use native.Mathlib.Omega.{arith}
 use mathlib.Core.Path.{_≡_, refl, sym, ap, _∙_}
 use mathlib.Core.List.{List, [], _∷_, _++_, append-assoc, map}
 use lib.ListN.{length, getD, take, drop, set, length-drop, take-append-drop}
-use lib.Seq.{paste, take-at, drop-at, take-all, length-take-le, set-split, length-paste}
+use lib.Seq.{paste, take-at, drop-at, length-take-le, set-split, length-paste}
 use Rattle.octets.specs.Octets.{splice}
-use Rattle.octets.proofs.Splice.{splice-fits}
+use Rattle.octets.proofs.Splice.{splice-fits, part-splice}
 use Rattle.picks.proofs.Shift.{shift-down}
 use Rattle.protocol.specs.declared.Connection.{Connection}
 use Rattle.protocol.specs.ConnectionTable.{fresh}
@@ -17,6 +17,13 @@ use Rattle.record.specs.Format.{byteAt, recordBytes, recordOf, rows, tableBytes
 use Rattle.record.proofs.Reading.{byte-in}
 use Rattle.record.proofs.Writing.{length-record, length-table}
 use Rattle.record.proofs.Ranges.{length-tableOf}
+
+-- a part that is laid at the start of other bytes and read there again
+pub moved : (from len : ℕ) (s z : List ℕ) → from + len ≤ length s → len ≤ length z → take len (drop 0 (splice 0 (take len (drop from s)) z)) ≡ take len (drop from s)
+moved from len s z h g =
+    let p = take len (drop from s) in
+    let l : length p ≡ len = length-take-le len (drop from s) (simp length-drop (omega arith)) in
+    rw l at (part-splice 0 p z (omega arith))
 
 -- the bytes of records one behind the other
 table-append : (a b : List Connection) → tableBytes (a ++ b) ≡ tableBytes a ++ tableBytes b
@@ -86,7 +93,7 @@ area-at : (i : ℕ) (s : List ℕ) (d : Connection) → i < 8 → getD (tableOf 
 unfolding recordOf
 area-at i s d h = ap (λ (c : Connection). c .area) (record-at i s d h) ∙ byte-in (40 * i) 9 s (omega arith)
 
-pub dropped : (i : ℕ) (s : List ℕ) → i < 8 → splice 280 (recordBytes (fresh (byteAt (40 * i + 9) s))) (splice (40 * i) (drop (40 * i + 40) (tableBytes (tableOf s))) (tableBytes (tableOf s))) ≡ tableBytes (droppedAt i (tableOf s))
+pub dropped : (i : ℕ) (s : List ℕ) → i < 8 → splice 280 (recordBytes (fresh (byteAt (40 * i + 9) s))) (splice (40 * i) (take (280 - 40 * i) (drop (40 * i + 40) (tableBytes (tableOf s)))) (tableBytes (tableOf s))) ≡ tableBytes (droppedAt i (tableOf s))
 dropped i s h =
     let t = tableOf s in
     let l = length-tableOf s in
@@ -94,11 +101,10 @@ dropped i s h =
     let d = drop (i + 1) t in
     let m = 7 - i in
     let e : 40 * i + 40 ≡ 40 * (i + 1) = omega arith in
-    let ld : length d ≡ m = simp (length-drop, l) (omega arith) in
-    let f : take (40 * m) (tableBytes d) ≡ tableBytes d = take-all (40 * m) (tableBytes d) (rw (length-table d, ld) (omega arith)) in
-    let hm : m ≤ length d = omega arith in
+    let f : 280 - 40 * i ≡ 40 * m = omega arith in
+    let hm : m ≤ length d = simp (length-drop, l) (omega arith) in
     let hp : i + m ≤ length t = omega arith in
     let p = paste t i d m in
     let lp : 7 < length p = simp (length-paste t i d m hp hm) (omega arith) in
-    rw (e, table-drop (i + 1) t (omega arith), ← f, pasted i m d t hp hm)
+    rw (e, f, table-drop (i + 1) t (omega arith), pasted i m d t hp hm)
     (placed 7 x p lp ∙ ap tableBytes (dropped-made t (set p 7 x) i x (fresh 0) (omega arith) (ap fresh (sym (area-at i s (fresh 0) h))) (shift-down t 7 i x l (omega arith))))

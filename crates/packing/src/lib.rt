@@ -3,10 +3,10 @@ use protocol::Connection;
 ghost use mathlib.Core.Path.{_≡_};
 ghost use mathlib.Core.Bool.{true, _&&_};
 ghost use Prim.Native.Nat.{_+_, _≤_};
-ghost use lib.ListN.{length, set};
+ghost use lib.ListN.{length, take, drop, set};
 ghost use lib.Dec.{ltb, leb};
 ghost use Rattle.picks.specs.Pick.{pick};
-ghost use Rattle.octets.specs.Octets.{AllBytes};
+ghost use Rattle.octets.specs.Octets.{AllBytes, splice};
 ghost use Rattle.table.specs.Row.{putIn, droppedAt};
 ghost use Rattle.record.specs.Format.{tableBytes, tableOf};
 ghost use Rattle.packing.specs.Plain.{rowAt, SameClient, NoTransfer, SameTransfer, SameState, SameRecord};
@@ -104,7 +104,17 @@ pub fn replace(t: &mut [u8; 320], i: usize, c: Connection)
     if 8 <= i {
         return;
     }
-    record::store_record(t, 40 * i, c);
+    record::store_record(t, i, c);
+}
+
+// So many bytes of a table go from one place to another, as they were before.
+fn shift(t: &mut [u8; 320], from: usize, len: usize, to: usize)
+    requires { ⌜ from + len ≤ 320 ⌝ }
+    ensures { λ _. ⌜ now (t .exit) ≡ splice to (take len (drop from (now (t .entry)))) (now (t .entry)) ⌝ }
+{
+    let mut moved = [0; 320];
+    octets::copy_at(&mut moved, 0, octets::part(t, from, len));
+    octets::copy_at(t, to, octets::part(&moved, 0, len));
 }
 
 // A record put at a place and those from there up to place n moved up by one; the one at place n is lost. Where there is no such place the records stay.
@@ -118,13 +128,8 @@ pub fn insert(t: &mut [u8; 320], at: usize, n: usize, c: Connection)
     if 8 <= n {
         return;
     }
-    let old = *t;
-    octets::copy_at(
-        t,
-        40 * at + 40,
-        octets::part(&old, 40 * at, 40 * n - 40 * at),
-    );
-    record::store_record(t, 40 * at, c);
+    shift(t, 40 * at, 40 * n - 40 * at, 40 * at + 40);
+    record::store_record(t, at, c);
 }
 
 // The record at a place dropped, its area number behind all others; past the end nothing is dropped.
@@ -137,7 +142,6 @@ pub fn drop_at(t: &mut [u8; 320], i: usize)
     }
     let area = t[40 * i + 9];
     tidy(t);
-    let old = *t;
-    octets::copy_at(t, 40 * i, octets::rest(&old, 40 * i + 40));
-    record::store_record(t, 280, record::fresh(area));
+    shift(t, 40 * i + 40, 280 - 40 * i, 40 * i);
+    record::store_record(t, 7, record::fresh(area));
 }

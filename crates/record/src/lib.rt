@@ -5,7 +5,7 @@ use protocol::SdoClientInfo;
 use protocol::SdoServerState;
 use protocol::SdoTransferState;
 ghost use mathlib.Core.Path.{_≡_};
-ghost use Prim.Native.Nat.{_+_, _<_, _≤_};
+ghost use Prim.Native.Nat.{_+_, _*_, _<_, _≤_};
 ghost use lib.ListN.{length, take, drop};
 ghost use lib.Dec.{eqb};
 ghost use Rattle.picks.specs.Pick.{pick};
@@ -304,17 +304,14 @@ fn put_record(out: &mut [u8], at: usize, c: Connection)
     lay_record(&mut out[at..end], c);
 }
 
-// A record is stored at a place; what falls outside is dropped.
-pub fn store_record(out: &mut [u8], at: usize, c: Connection)
-    ensures { λ _. ⌜ now (out .exit) ≡ splice at (recordBytes c) (now (out .entry)) ⌝ }
+// A record is stored at a place of a table's bytes; past the end none is.
+pub fn store_record(t: &mut [u8; 320], i: usize, c: Connection)
+    ensures { λ _. ⌜ now (t .exit) ≡ splice (40 * i) (recordBytes c) (now (t .entry)) ⌝ }
 {
-    if at < out.len() {
-        if 40 <= out.len() - at {
-            put_record(out, at, c);
-            return;
-        }
+    let out = &mut t[..];
+    if i < 8 {
+        put_record(out, 40 * i, c);
     }
-    octets::copy_at(out, at, &record_bytes(c));
 }
 
 // A table's bytes take the place of 320.

@@ -16,9 +16,9 @@ returns c =
 
 returns-2 : tie.Need-returns-2
 returns-2 c =
-    let a = c .before .before .before .before .before .before .before .before .before .before .before .before .args in
-    rw (c .store-record .ensures, c .before .fresh .ensures, c .before .before .before .copy-at .ensures, c .before .before .before .before .rest .ensures, c .before .before .before .before .before .before .before .before .tidy2 .ensures)
-    (dropped (a .i) (a .t .now) (c .before .before .before .before .before .before .before .before .before .before .before .if1 .left))
+    let a = c .before .before .before .before .before .before .before .before .before .args in
+    rw (c .store-record .ensures, c .before .fresh .ensures, c .before .before .before .shift .ensures, c .before .before .before .before .before .tidy2 .ensures)
+    (dropped (a .i) (a .t .now) (c .before .before .before .before .before .before .before .before .if1 .left))
 
 pub drop-at-spec : {M : Type 1} → statement M
 drop-at-spec =
@@ -34,7 +34,7 @@ drop-at-spec =
     (λ c. search needs)
     (λ c. search needs)
     (λ c. search needs)
-    (λ c κs. search needs)
+    (λ c. search needs)
     (λ c κs. search needs)
     (λ c κs. search needs)
     (λ c κs. search needs)

@@ -19,11 +19,11 @@ returns-2 c = c .before .before .tidy .ensures ∙ ap tableBytes (pick-f _ _ _ _
 
 returns-3 : tie.Need-returns-3
 returns-3 c =
-    let a = c .before .before .before .before .before .before .before .before .before .before .before .args in
+    let a = c .before .before .before .before .before .before .before .before .args in
     let t = tableOf (a .t .now) in
-    let h = c .before .before .before .before .before .before .before .before .if1 .left in
-    let l = c .before .before .before .before .before .before .before .if2 .left in
-    rw (c .store-record .ensures, c .before .before .copy-at .ensures, c .before .before .before .part .ensures, c .before .before .before .before .before .before .before .before .before .tidy .ensures)
+    let h = c .before .before .before .before .before .if1 .left in
+    let l = c .before .before .before .before .if2 .left in
+    rw (c .store-record .ensures, c .before .before .shift .ensures, c .before .before .before .before .before .before .tidy .ensures)
     (inserted (a .at) (a .n) (a .c) t h (omega (arith, length-tableOf (a .t .now), l)) ∙ ap tableBytes (pick-t _ _ _ _ (both (le-leb _ _ h) (lt-ltb _ _ l)) refl))
 
 pub insert-spec : {M : Type 1} → statement M
@@ -39,9 +39,6 @@ insert-spec =
     (λ c. search needs)
     (λ c. search needs)
     (λ c. search needs)
-    (λ c. search needs)
     (λ c κs. search needs)
-    (λ c κs. search needs)
-    (λ c. search needs)
     (λ c κs. search needs)
     returns-3)

@@ -25,6 +25,5 @@ replace-spec =
     (tie.spec
     (λ c κs. search needs)
     returns
-    (λ c. search needs)
     (λ c κs. search needs)
     returns-2)
