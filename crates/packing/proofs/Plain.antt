@@ -3,21 +3,21 @@ use Prim.Native.Nat.{ℕ, zero, suc, _+_, _*_, _/_, _%_, _<_, _≤_}
 use native.Mathlib.Omega.{arith}
 use native.Mathlib.Nat.{add-zero}
 use mathlib.Core.Path.{_≡_, refl, sym, ap, _∙_}
-use mathlib.Core.Bool.{Bool, true, _&&_, _||_}
+use mathlib.Core.Bool.{true, _&&_, _||_}
 use mathlib.Core.List.{List, [], _∷_, _++_, append-assoc, map}
 use lib.ListN.{length, take, drop, length-drop}
 use lib.Dec.{ltb, eqb}
 use lib.Seq.{take-suc, take-add, take-all, take-take, drop-drop, drop-cons, length-take-le, getD-drop}
-use borrow.Author.Tests.{eqb-true, ltb-true, ltb-false, ne-eqb}
+use borrow.Author.Tests.{eqb-true, ltb-true, ltb-false}
 use Rattle.picks.specs.Pick.{pick}
-use Rattle.picks.proofs.Keep.{by-test, not-both, of-both}
+use Rattle.picks.proofs.Keep.{by-test, of-both}
 use Rattle.octets.specs.Octets.{le, leBytes, AllBytes}
 use Rattle.octets.proofs.Bytes.{bytes-drop, bytes-take}
 use Rattle.octets.proofs.Little.{leBytes-le}
 use Rattle.protocol.specs.declared.Deadline.the-variants.{NoDeadline, At}
 use Rattle.record.specs.Format.{byteAt, numberAt, flag, big, bigBytes, clientBytes, clientOf, deadlineFlag, deadlineTime, transferBytes, transferOf, stateNumber, stateBytes, stateOf, recordBytes, recordOf, rows, tableBytes, tableOf}
 use Rattle.record.proofs.Reading.{state-is, byte-in}
-use Rattle.packing.specs.Plain.{rowAt, SameClient, NoTransfer, SameTransfer, SameState, SameRecord}
+use Rattle.packing.specs.Plain.{rowAt, RowIn, SameClient, NoTransfer, SameTransfer, SameState, SameRecord}
 
 -- a part of a list by its first byte, and by its first n
 part-byte : (m k : ℕ) (r : List ℕ) → k < length r → take (suc m) (drop k r) ≡ byteAt k r ∷ take m (drop (suc k) r)
@@ -48,8 +48,8 @@ number-same n k r b h =
     let l : n ≤ length d = simp length-drop (omega arith) in
     leBytes-le n (take n d) (length-take-le n d l) (bytes-take n d (bytes-drop k r b))
 
-zeros-same : (n k : ℕ) (r : List ℕ) → AllBytes r → k + n ≤ length r → eqb (numberAt n k r) 0 ≡ true → take n (drop k r) ≡ leBytes n 0
-zeros-same n k r b h e = sym (number-same n k r b h) ∙ ap (leBytes n) (eqb-true (numberAt n k r) 0 e)
+zeros-same : (n k : ℕ) (r : List ℕ) → AllBytes r → k + n ≤ length r → numberAt n k r ≡ 0 → take n (drop k r) ≡ leBytes n 0
+zeros-same n k r b h e = sym (number-same n k r b h) ∙ ap (leBytes n) e
 
 -- a flag
 flag-same : (x : ℕ) → x < 2 → flag (eqb x 1) ≡ x
@@ -58,20 +58,19 @@ flag-same (suc zero) h = refl
 flag-same (suc (suc x)) h = absurd (omega arith)
 
 -- a client of eight bytes, by its kind
-client-of-kind : (n : ℕ) (u : List ℕ) → n ≡ byteAt 0 u → AllBytes u → 8 ≤ length u → (eqb n 0 || (eqb n 1 && eqb (byteAt 7 u) 0)) ≡ true → clientBytes (clientOf u) ≡ take 8 u
-unfolding clientOf clientBytes pick
-client-of-kind zero u e b h t =
-    let l : 6 ≤ length (drop 2 u) = simp length-drop (omega arith) in
-    rw (part-byte 7 0 u (omega arith), part-byte 6 1 u (omega arith), ← e, big-same 6 (drop 2 u) l (bytes-drop 2 u b))
-client-of-kind (suc zero) u e b h t =
-    let l : 4 ≤ length (drop 1 u) = simp length-drop (omega arith) in
-    let z = eqb-true (byteAt 7 u) 0 t in
-    rw (part-byte 7 0 u (omega arith), part-more 4 3 1 u, part-more 2 1 5 u, part-byte 0 7 u (omega arith), z, ← e, big-same 4 (drop 1 u) l (bytes-drop 1 u b), number-same 2 5 u b (omega arith))
-    (ap (λ (x : List ℕ). 1 ∷ x) (append-assoc (take 4 (drop 1 u)) (take 2 (drop 5 u)) (0 ∷ [])))
-client-of-kind (suc (suc n)) u e b h t =
-    let f = ne-eqb (suc (suc n)) 0 (λ i. absurd (omega arith)) in
-    let g = ne-eqb (suc (suc n)) 1 (λ i. absurd (omega arith)) in
-    not-both t (rw (f, g))
+module _ (u : List ℕ) (b : AllBytes u) (h : 8 ≤ length u) where
+  asnd-same : byteAt 0 u ≡ 0 → clientBytes (clientOf u) ≡ take 8 u
+  unfolding clientOf clientBytes pick
+  asnd-same e =
+      let l : 6 ≤ length (drop 2 u) = simp length-drop (omega arith) in
+      rw (part-byte 7 0 u (omega arith), part-byte 6 1 u (omega arith), e, big-same 6 (drop 2 u) l (bytes-drop 2 u b))
+
+  udp-same : byteAt 0 u ≡ 1 → byteAt 7 u ≡ 0 → clientBytes (clientOf u) ≡ take 8 u
+  unfolding clientOf clientBytes pick
+  udp-same e z =
+      let l : 4 ≤ length (drop 1 u) = simp length-drop (omega arith) in
+      rw (part-byte 7 0 u (omega arith), part-more 4 3 1 u, part-more 2 1 5 u, part-byte 0 7 u (omega arith), z, e, big-same 4 (drop 1 u) l (bytes-drop 1 u b), number-same 2 5 u b (omega arith))
+      (ap (λ (x : List ℕ). 1 ∷ x) (append-assoc (take 4 (drop 1 u)) (take 2 (drop 5 u)) (0 ∷ [])))
 
 -- a deadline by its flag
 deadline-told : (x n : ℕ) → deadlineFlag (pick (eqb x 1) (At n) NoDeadline) ≡ flag (eqb x 1)
@@ -84,30 +83,30 @@ time-told x n t = by-test (eqb x 1) (λ e. rw e) (λ e. rw e (sym (eqb-true n 0 
 
 -- the parts of a record's 40 bytes
 module _ (r : List ℕ) (b : AllBytes r) (l : length r ≡ 40) where
-  pub same-client : (eqb (byteAt 1 r) 0 || (eqb (byteAt 1 r) 1 && eqb (byteAt 8 r) 0)) ≡ true → SameClient r
-  same-client t =
-      let u = drop 1 r in
-      let h : 8 ≤ length u = simp length-drop (omega arith) in
-      client-of-kind (byteAt 1 r) u (sym (getD-drop 1 r 0 0)) (bytes-drop 1 r b) h (rw (getD-drop 1 r 7 0) t)
+  client-long : 8 ≤ length (drop 1 r)
+  client-long = simp length-drop (omega arith)
 
-  pub no-transfer : (eqb (numberAt 8 13 r) 0 && eqb (numberAt 8 21 r) 0 && eqb (numberAt 8 29 r) 0 && eqb (numberAt 2 37 r) 0) ≡ true → NoTransfer r
+  same-asnd : byteAt 1 r ≡ 0 → SameClient r
+  same-asnd e = asnd-same (drop 1 r) (bytes-drop 1 r b) client-long (rw (getD-drop 1 r 0 0) e)
+
+  same-udp : byteAt 1 r ≡ 1 → byteAt 8 r ≡ 0 → SameClient r
+  same-udp e z = udp-same (drop 1 r) (bytes-drop 1 r b) client-long (rw (getD-drop 1 r 0 0) e) (rw (getD-drop 1 r 7 0) z)
+
+  -- the third number and the fourth have five bytes in common
+  no-transfer : numberAt 8 13 r ≡ 0 → numberAt 8 21 r ≡ 0 → numberAt 8 29 r ≡ 0 → numberAt 8 32 r ≡ 0 → NoTransfer r
   unfolding leBytes
-  no-transfer t =
-      let p = of-both (eqb (numberAt 8 13 r) 0 && eqb (numberAt 8 21 r) 0 && eqb (numberAt 8 29 r) 0) (eqb (numberAt 2 37 r) 0) t in
-      let q = of-both (eqb (numberAt 8 13 r) 0 && eqb (numberAt 8 21 r) 0) (eqb (numberAt 8 29 r) 0) (p .0) in
-      let o = of-both (eqb (numberAt 8 13 r) 0) (eqb (numberAt 8 21 r) 0) (q .0) in
-      rw (part-more 8 18 13 r, part-more 8 10 21 r, part-more 8 2 29 r, zeros-same 8 13 r b (omega arith) (o .0), zeros-same 8 21 r b (omega arith) (o .1), zeros-same 8 29 r b (omega arith) (q .1), zeros-same 2 37 r b (omega arith) (p .1))
+  no-transfer e f g h =
+      let z : take 3 (drop 29 r) ≡ leBytes 3 0 = sym (take-take 3 8 (drop 29 r) (omega arith)) ∙ ap (take 3) (zeros-same 8 29 r b (omega arith) g) in
+      rw (part-more 8 19 13 r, part-more 8 11 21 r, part-more 3 8 29 r, zeros-same 8 13 r b (omega arith) e, zeros-same 8 21 r b (omega arith) f, z, zeros-same 8 32 r b (omega arith) h)
 
-  pub same-transfer : (ltb (byteAt 25 r) 2 && ltb (byteAt 38 r) 2 && (eqb (byteAt 25 r) 1 || eqb (numberAt 8 26 r) 0)) ≡ true → SameTransfer r
+  transfer-written : byteAt 38 r ≤ 1 → byteAt 25 r ≤ 1 → (eqb (byteAt 25 r) 1 || eqb (numberAt 8 26 r) 0) ≡ true → transferBytes (transferOf r) ≡ take 26 (drop 13 r)
   unfolding transferBytes transferOf
-  same-transfer t =
-      let p = of-both (ltb (byteAt 25 r) 2 && ltb (byteAt 38 r) 2) (eqb (byteAt 25 r) 1 || eqb (numberAt 8 26 r) 0) t in
-      let q = of-both (ltb (byteAt 25 r) 2) (ltb (byteAt 38 r) 2) (p .0) in
+  transfer-written f g t =
       rw (
         deadline-told (byteAt 25 r) (numberAt 8 26 r),
-        time-told (byteAt 25 r) (numberAt 8 26 r) (p .1),
-        flag-same (byteAt 25 r) (ltb-true (byteAt 25 r) 2 (q .0)),
-        flag-same (byteAt 38 r) (ltb-true (byteAt 38 r) 2 (q .1)),
+        time-told (byteAt 25 r) (numberAt 8 26 r) t,
+        flag-same (byteAt 25 r) (omega arith),
+        flag-same (byteAt 38 r) (omega arith),
         number-same 4 14 r b (omega arith),
         number-same 4 18 r b (omega arith),
         number-same 2 22 r b (omega arith),
@@ -125,15 +124,20 @@ module _ (r : List ℕ) (b : AllBytes r) (l : length r ≡ 40) where
       )
       (simp append-assoc)
 
+  same-transfer : byteAt 39 r ≡ 0 → byteAt 38 r ≤ 1 → byteAt 25 r ≤ 1 → (eqb (byteAt 25 r) 1 || eqb (numberAt 8 26 r) 0) ≡ true → SameTransfer r
+  same-transfer z f g t =
+      let y : take 1 (drop 39 r) ≡ 0 ∷ [] = part-byte 0 39 r (omega arith) ∙ ap (λ (x : ℕ). x ∷ []) z in
+      rw (transfer-written f g t, ← y) (sym (part-more 26 1 13 r))
+
   -- a state by its number
-  state-blank : (n : ℕ) → n ≡ byteAt 12 r → n < 3 → NoTransfer r → stateNumber (stateOf r) ∷ stateBytes (stateOf r) ≡ n ∷ take 26 (drop 13 r)
+  state-blank : (n : ℕ) → n ≡ byteAt 12 r → n < 3 → NoTransfer r → stateNumber (stateOf r) ∷ (stateBytes (stateOf r) ++ (0 ∷ [])) ≡ n ∷ take 27 (drop 13 r)
   unfolding stateBytes pick
   state-blank zero e h z = rw (state-is r 0 e) (ap (λ (x : List ℕ). 0 ∷ x) z)
   state-blank (suc zero) e h z = rw (state-is r 1 e) (ap (λ (x : List ℕ). 1 ∷ x) z)
   state-blank (suc (suc zero)) e h z = rw (state-is r 2 e) (ap (λ (x : List ℕ). 2 ∷ x) z)
   state-blank (suc (suc (suc n))) e h z = absurd (omega arith)
 
-  state-busy : (n : ℕ) → n ≡ byteAt 12 r → 3 ≤ n → n < 5 → SameTransfer r → stateNumber (stateOf r) ∷ stateBytes (stateOf r) ≡ n ∷ take 26 (drop 13 r)
+  state-busy : (n : ℕ) → n ≡ byteAt 12 r → 3 ≤ n → n < 5 → SameTransfer r → stateNumber (stateOf r) ∷ (stateBytes (stateOf r) ++ (0 ∷ [])) ≡ n ∷ take 27 (drop 13 r)
   unfolding stateBytes pick
   state-busy zero e h g z = absurd (omega arith)
   state-busy (suc zero) e h g z = absurd (omega arith)
@@ -142,45 +146,60 @@ module _ (r : List ℕ) (b : AllBytes r) (l : length r ≡ 40) where
   state-busy (suc (suc (suc (suc zero)))) e h g z = rw (state-is r 4 e) (ap (λ (x : List ℕ). 4 ∷ x) z)
   state-busy (suc (suc (suc (suc (suc n))))) e h g z = absurd (omega arith)
 
-  pub same-state-blank : byteAt 12 r < 3 → NoTransfer r → SameState r
-  same-state-blank h z = rw (part-byte 26 12 r (omega arith)) (state-blank (byteAt 12 r) refl h z)
+  same-state-blank : byteAt 12 r < 3 → NoTransfer r → SameState r
+  same-state-blank h z = rw (part-byte 27 12 r (omega arith)) (state-blank (byteAt 12 r) refl h z)
 
-  pub same-state-busy : 3 ≤ byteAt 12 r → byteAt 12 r < 5 → SameTransfer r → SameState r
-  same-state-busy h g z = rw (part-byte 26 12 r (omega arith)) (state-busy (byteAt 12 r) refl h g z)
+  same-state-busy : 3 ≤ byteAt 12 r → byteAt 12 r < 5 → SameTransfer r → SameState r
+  same-state-busy h g z = rw (part-byte 27 12 r (omega arith)) (state-busy (byteAt 12 r) refl h g z)
 
-  pub same-record : byteAt 0 r < 2 → byteAt 39 r ≡ 0 → SameClient r → SameState r → SameRecord r
+  same-record : byteAt 0 r ≤ 1 → SameClient r → SameState r → SameRecord r
   unfolding recordBytes recordOf
-  same-record h z k s =
+  same-record h k s =
       let w : take 40 (drop 0 r) ≡ r = take-all 40 r (omega arith) in
-      let y : take 1 (drop 39 r) ≡ 0 ∷ [] = part-byte 0 39 r (omega arith) ∙ ap (λ (x : ℕ). x ∷ []) z in
-      rw (flag-same (byteAt 0 r) h, k) (
+      rw (flag-same (byteAt 0 r) (omega arith), k) (
       simp append-assoc (
-      ap (λ (x : List ℕ). byteAt 0 r ∷ (take 8 (drop 1 r) ++ (byteAt 9 r ∷ byteAt 10 r ∷ byteAt 11 r ∷ (x ++ (0 ∷ []))))) s ∙ (rw (← y, ← part-more 27 1 12 r, ← part-byte 28 11 r (omega arith), ← part-byte 29 10 r (omega arith), ← part-byte 30 9 r (omega arith), ← part-more 8 31 1 r, ← part-byte 39 0 r (omega arith)) w)
+      ap (λ (x : List ℕ). byteAt 0 r ∷ (take 8 (drop 1 r) ++ (byteAt 9 r ∷ byteAt 10 r ∷ byteAt 11 r ∷ x))) s ∙ (rw (← part-byte 28 11 r (omega arith), ← part-byte 29 10 r (omega arith), ← part-byte 30 9 r (omega arith), ← part-more 8 31 1 r, ← part-byte 39 0 r (omega arith)) w)
       )
       )
 
 -- the same of the record at a place, by the bytes of the table
-module _ (at : ℕ) (s : List ℕ) (h : (at + 40 ≤ length s) × AllBytes s) where
+module _ (at : ℕ) (s : List ℕ) (h : RowIn at s) where
   abbrev row : List ℕ
   row = rowAt at s
 
   row-bytes : AllBytes row
-  row-bytes = bytes-take 40 (drop at s) (bytes-drop at s (h .1))
+  row-bytes = bytes-take 40 (drop at s) (bytes-drop at s (h .2))
 
   row-long : length row ≡ 40
-  row-long = let g = h .0 in length-take-le 40 (drop at s) (simp length-drop (omega arith))
+  row-long = let g = h .0 in let l = h .1 in length-take-le 40 (drop at s) (simp length-drop (omega arith))
 
   number-in : (n k : ℕ) → k + n ≤ 40 → numberAt n k row ≡ numberAt n (at + k) s
   number-in n k g = ap le (part-within n k 40 (drop at s) g ∙ ap (take n) (drop-drop k at s))
 
-  pub client-at : (eqb (byteAt (at + 1) s) 0 || (eqb (byteAt (at + 1) s) 1 && eqb (byteAt (at + 8) s) 0)) ≡ true → SameClient row
-  client-at t = same-client row row-bytes row-long (rw (byte-in at 1 s (omega arith), byte-in at 8 s (omega arith)) t)
+  pub asnd-at : byteAt (at + 1) s ≡ 0 → SameClient row
+  asnd-at e = same-asnd row row-bytes row-long (byte-in at 1 s (omega arith) ∙ e)
 
-  pub no-transfer-at : (eqb (numberAt 8 (at + 13) s) 0 && eqb (numberAt 8 (at + 21) s) 0 && eqb (numberAt 8 (at + 29) s) 0 && eqb (numberAt 2 (at + 37) s) 0) ≡ true → NoTransfer row
-  no-transfer-at t = no-transfer row row-bytes row-long (rw (number-in 8 13 (omega arith), number-in 8 21 (omega arith), number-in 8 29 (omega arith), number-in 2 37 (omega arith)) t)
+  pub udp-at : (eqb (byteAt (at + 1) s) 1 && eqb (byteAt (at + 8) s) 0) ≡ true → SameClient row
+  udp-at t =
+      let p = of-both (eqb (byteAt (at + 1) s) 1) (eqb (byteAt (at + 8) s) 0) t in
+      same-udp row row-bytes row-long (byte-in at 1 s (omega arith) ∙ eqb-true (byteAt (at + 1) s) 1 (p .0)) (byte-in at 8 s (omega arith) ∙ eqb-true (byteAt (at + 8) s) 0 (p .1))
 
-  pub transfer-at : (ltb (byteAt (at + 25) s) 2 && ltb (byteAt (at + 38) s) 2 && (eqb (byteAt (at + 25) s) 1 || eqb (numberAt 8 (at + 26) s) 0)) ≡ true → SameTransfer row
-  transfer-at t = same-transfer row row-bytes row-long (rw (byte-in at 25 s (omega arith), byte-in at 38 s (omega arith), number-in 8 26 (omega arith)) t)
+  pub no-transfer-at : numberAt 8 (at + 13) s ≡ 0 → numberAt 8 (at + 21) s ≡ 0 → numberAt 8 (at + 29) s ≡ 0 → eqb (numberAt 8 (at + 32) s) 0 ≡ true → NoTransfer row
+  no-transfer-at e f g t =
+      no-transfer row row-bytes row-long (number-in 8 13 (omega arith) ∙ e) (number-in 8 21 (omega arith) ∙ f) (number-in 8 29 (omega arith) ∙ g) (number-in 8 32 (omega arith) ∙ eqb-true (numberAt 8 (at + 32) s) 0 t)
+
+  transfer-at : byteAt (at + 39) s ≡ 0 → byteAt (at + 38) s ≤ 1 → byteAt (at + 25) s ≤ 1 → (eqb (byteAt (at + 25) s) 1 || eqb (numberAt 8 (at + 26) s) 0) ≡ true → SameTransfer row
+  transfer-at z f g t =
+      same-transfer row row-bytes row-long (byte-in at 39 s (omega arith) ∙ z) (rw (byte-in at 38 s (omega arith)) f) (rw (byte-in at 25 s (omega arith)) g) (rw (byte-in at 25 s (omega arith), number-in 8 26 (omega arith)) t)
+
+  pub timed-at : byteAt (at + 39) s ≡ 0 → byteAt (at + 38) s ≤ 1 → byteAt (at + 25) s ≡ 1 → SameTransfer row
+  timed-at z f e = transfer-at z f (omega arith) (rw e)
+
+  pub untimed-at : byteAt (at + 39) s ≡ 0 → byteAt (at + 38) s ≤ 1 → (eqb (byteAt (at + 25) s) 0 && eqb (numberAt 8 (at + 26) s) 0) ≡ true → SameTransfer row
+  untimed-at z f t =
+      let p = of-both (eqb (byteAt (at + 25) s) 0) (eqb (numberAt 8 (at + 26) s) 0) t in
+      let e = eqb-true (byteAt (at + 25) s) 0 (p .0) in
+      transfer-at z f (omega arith) (rw e (p .1))
 
   pub state-blank-at : byteAt (at + 12) s < 3 → NoTransfer row → SameState row
   state-blank-at g z = same-state-blank row row-bytes row-long (rw (byte-in at 12 s (omega arith)) g) z
@@ -188,14 +207,8 @@ module _ (at : ℕ) (s : List ℕ) (h : (at + 40 ≤ length s) × AllBytes s) wh
   pub state-busy-at : 3 ≤ byteAt (at + 12) s → byteAt (at + 12) s < 5 → SameTransfer row → SameState row
   state-busy-at g i z = same-state-busy row row-bytes row-long (rw (byte-in at 12 s (omega arith)) g) (rw (byte-in at 12 s (omega arith)) i) z
 
-  pub record-plain : (used end client state : Bool) → used ≡ ltb (byteAt at s) 2 → end ≡ eqb (byteAt (at + 39) s) 0 → (client ≡ true → SameClient row) → (state ≡ true → SameState row) → (used && end && client && state) ≡ true → SameRecord row
-  record-plain used end client state u z k q t =
-      let f = of-both (used && end && client) state t in
-      let g = of-both (used && end) client (f .0) in
-      let i = of-both used end (g .0) in
-      let x : byteAt 0 row < 2 = rw (byte-in at 0 s (omega arith), add-zero at) (ltb-true (byteAt at s) 2 (sym u ∙ i .0)) in
-      let y : byteAt 39 row ≡ 0 = rw (byte-in at 39 s (omega arith)) (eqb-true (byteAt (at + 39) s) 0 (sym z ∙ i .1)) in
-      same-record row row-bytes row-long x y (k (g .1)) (q (f .1))
+  pub record-plain : byteAt at s ≤ 1 → SameClient row → SameState row → SameRecord row
+  record-plain u k z = same-record row row-bytes row-long (rw (byte-in at 0 s (omega arith), add-zero at) u) k z
 
 -- a table whose records are such
 rows-same : (n at : ℕ) (s : List ℕ) → ((j : ℕ) → j < n → SameRecord (rowAt (at + 40 * j) s)) → tableBytes (map recordOf (rows n at s)) ≡ take (40 * n) (drop at s)

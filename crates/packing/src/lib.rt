@@ -9,40 +9,58 @@ ghost use Rattle.picks.specs.Pick.{pick};
 ghost use Rattle.octets.specs.Octets.{AllBytes, splice};
 ghost use Rattle.table.specs.Row.{putIn, droppedAt};
 ghost use Rattle.record.specs.Format.{tableBytes, tableOf};
-ghost use Rattle.packing.specs.Plain.{rowAt, SameClient, NoTransfer, SameTransfer, SameState, SameRecord};
+ghost use Rattle.packing.specs.Plain.{rowAt, RowIn, SameClient, NoTransfer, SameTransfer, SameState, SameRecord};
 
 // Whether the client of the record at a place has nothing but 0 where nobody looks.
-fn plain_client(s: &[u8], at: usize) -> bool
-    requires { ⌜ (at + 40 ≤ length (now s)) × AllBytes (now s) ⌝ }
+fn plain_client(s: &[u8; 320], at: usize) -> bool
+    requires { ⌜ RowIn at (now s) ⌝ }
     ensures { λ r. ⌜ (r ≡ true → SameClient (rowAt at (now (s .entry)))) ⌝ }
 {
     let kind = s[at + 1];
-    (kind == 0) | (kind == 1) & (s[at + 8] == 0)
+    if kind == 0 {
+        return true;
+    }
+    (kind == 1) & (s[at + 8] == 0)
 }
 
-// Whether the bytes of a transfer are 0.
-fn no_transfer(s: &[u8], at: usize) -> bool
-    requires { ⌜ (at + 40 ≤ length (now s)) × AllBytes (now s) ⌝ }
+// Whether the bytes behind the state are 0.
+fn no_transfer(s: &[u8; 320], at: usize) -> bool
+    requires { ⌜ RowIn at (now s) ⌝ }
     ensures { λ r. ⌜ (r ≡ true → NoTransfer (rowAt at (now (s .entry)))) ⌝ }
 {
-    (octets::u64_at(s, at + 13) == 0)
-        & (octets::u64_at(s, at + 21) == 0)
-        & (octets::u64_at(s, at + 29) == 0)
-        & (octets::u16_at(s, at + 37) == 0)
+    if octets::u64_at(s, at + 13) != 0 {
+        return false;
+    }
+    if octets::u64_at(s, at + 21) != 0 {
+        return false;
+    }
+    if octets::u64_at(s, at + 29) != 0 {
+        return false;
+    }
+    octets::u64_at(s, at + 32) == 0
 }
 
-// Whether a transfer's flags are 0 or 1, and its deadline 0 where it has none.
-fn plain_transfer(s: &[u8], at: usize) -> bool
-    requires { ⌜ (at + 40 ≤ length (now s)) × AllBytes (now s) ⌝ }
+// Whether a transfer's flags are 0 or 1, its deadline 0 where it has none, and the last byte 0.
+fn plain_transfer(s: &[u8; 320], at: usize) -> bool
+    requires { ⌜ RowIn at (now s) ⌝ }
     ensures { λ r. ⌜ (r ≡ true → SameTransfer (rowAt at (now (s .entry)))) ⌝ }
 {
     let timed = s[at + 25];
-    (timed < 2) & (s[at + 38] < 2) & ((timed == 1) | (octets::u64_at(s, at + 26) == 0))
+    if s[at + 39] != 0 {
+        return false;
+    }
+    if 1 < s[at + 38] {
+        return false;
+    }
+    if timed == 1 {
+        return true;
+    }
+    (timed == 0) & (octets::u64_at(s, at + 26) == 0)
 }
 
 // Whether the bytes from the state on are those written of it.
-fn plain_state(s: &[u8], at: usize) -> bool
-    requires { ⌜ (at + 40 ≤ length (now s)) × AllBytes (now s) ⌝ }
+fn plain_state(s: &[u8; 320], at: usize) -> bool
+    requires { ⌜ RowIn at (now s) ⌝ }
     ensures { λ r. ⌜ (r ≡ true → SameState (rowAt at (now (s .entry)))) ⌝ }
 {
     let state = s[at + 12];
@@ -56,16 +74,21 @@ fn plain_state(s: &[u8], at: usize) -> bool
 }
 
 // Whether the bytes of the record at a place are those written of it.
-fn plain_record(s: &[u8], at: usize) -> bool
-    requires { ⌜ (at + 40 ≤ length (now s)) × AllBytes (now s) ⌝ }
+fn plain_record(s: &[u8; 320], at: usize) -> bool
+    requires { ⌜ RowIn at (now s) ⌝ }
     ensures { λ r. ⌜ (r ≡ true → SameRecord (rowAt at (now (s .entry)))) ⌝ }
 {
-    let ends = (s[at] < 2) & (s[at + 39] == 0);
-    ends & plain_client(s, at) & plain_state(s, at)
+    if 1 < s[at] {
+        return false;
+    }
+    if plain_client(s, at) {
+        return plain_state(s, at);
+    }
+    false
 }
 
 // Whether the bytes are those written of the eight records that they say; a doubt is a no.
-fn is_plain(s: &[u8]) -> bool
+fn is_plain(s: &[u8; 320]) -> bool
     requires { ⌜ (length (now s) ≡ 320) × AllBytes (now s) ⌝ }
     ensures { λ r. ⌜ (r ≡ true → tableBytes (tableOf (now (s .entry))) ≡ now (s .entry)) ⌝ }
 {
@@ -79,9 +102,9 @@ fn is_plain(s: &[u8]) -> bool
     true
 }
 
-// What the type of an array says, for the proof: its elements are bytes. The call does nothing.
+// What the type of an array says, for the proof: it has 320 elements, and they are bytes. The call does nothing.
 fn are_bytes(t: [u8; 320])
-    ensures { λ _. ⌜ AllBytes t ⌝ }
+    ensures { λ _. ⌜ (length t ≡ 320) × AllBytes t ⌝ }
 {}
 
 // The bytes are those of the records that they say.

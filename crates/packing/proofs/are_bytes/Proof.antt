@@ -1,4 +1,4 @@
--- Each element fits eight bits.
+-- There are 320, and each fits eight bits.
 use mir.Val.{Fits}
 use mir.Syntax.{w8}
 use lib.ListN.{getD}
@@ -7,7 +7,7 @@ use Rattle.packing.proofs.are_bytes.Statement.{statement}
 use Rattle.packing.proofs.are_bytes.Tie as tie
 
 returns : tie.Need-returns
-returns c = λ i. let f : Fits w8 (getD (c .args .t) i 0) = search needs in f .fits
+returns c = (search needs, λ i. let f : Fits w8 (getD (c .args .t) i 0) = search needs in f .fits)
 
 pub are-bytes-spec : {M : Type 1} → statement M
 are-bytes-spec = tie.close (tie.spec returns)

@@ -20,7 +20,7 @@ loop-holds : tie.Need-loop-holds Inv-loop μ-loop
 loop-holds c = (search needs, λ j h. absurd (omega arith))
 
 plain-record-requires : tie.Need-plain-record-requires Inv-loop μ-loop
-plain-record-requires c κs = (omega (arith, c .before .before .before .pre .0), c .before .before .before .pre .1)
+plain-record-requires c κs = let h = c .before .before .pre in (search needs, h .0, h .1)
 
 returns : tie.Need-returns Inv-loop μ-loop
 returns c t = not-both t refl
@@ -31,7 +31,7 @@ loop-again c =
     (search needs, same-more (l .i) _ (l .inv .1) (c .before .plain-record .ensures (not-false _ (c .if1 .left))))
 
 returns-2 : tie.Need-returns-2 Inv-loop μ-loop
-returns-2 c t = let l = c .before .loop in same-table _ (c .before .before .before .pre .0) (λ j h. l .inv .1 j (omega arith))
+returns-2 c t = let l = c .before .loop in same-table _ (c .before .before .pre .0) (λ j h. l .inv .1 j (omega arith))
 
 pub is-plain-spec : {M : Type 1} → statement M
 is-plain-spec =

@@ -9,14 +9,14 @@ use Rattle.packing.proofs.tidy.Statement.{statement}
 use Rattle.packing.proofs.tidy.Tie as tie
 
 is-plain-requires : tie.Need-is-plain-requires
-is-plain-requires c κs = (search needs, c .before .before .are-bytes .ensures)
+is-plain-requires c κs = c .before .are-bytes .ensures
 
 returns : tie.Need-returns
 returns c = sym (c .before .is-plain .ensures (c .if1 .taken))
 
 returns-2 : tie.Need-returns-2
 returns-2 c =
-    let s = c .before .before .before .before .before .before .before .before .before .before .before .args .t .now in
+    let s = c .before .before .before .before .before .before .before .before .before .before .args .t .now in
     let l : length s ≡ 320 = search needs in
     c .put-table .ensures ∙ sym (pick-t _ _ _ _ (eq-eqb (length s) 320 l) (ap tableBytes (sym (c .before .before .table-of .ensures))))
 
