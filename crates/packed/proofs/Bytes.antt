@@ -1,13 +1,13 @@
 -- What a record's bytes say of it, and the table of the bytes by its places.
-use Prim.Native.Nat.{ℕ, zero, suc, _+_, _*_, _-_, _≤_, _<_}
+use Prim.Native.Nat.{ℕ, zero, suc, _+_, _*_}
 use native.Mathlib.Omega.{arith}
-use native.Mathlib.Nat.{zero-add, add-zero, suc-add}
+use native.Mathlib.Nat.{add-zero}
 use mathlib.Core.Path.{_≡_, refl, sym, ap, _∙_}
 use mathlib.Core.Bool.{Bool, true, false, _&&_}
-use mathlib.Core.List.{List, [], _∷_}
-use lib.ListN.{length, getD, take, drop}
+use mathlib.Core.List.{List}
+use lib.ListN.{take, drop}
 use lib.Dec.{ltb, eqb}
-use lib.Seq.{take-nil, take-take, drop-drop, getD-drop}
+use lib.Seq.{drop-drop, getD-drop}
 use borrow.Author.Tests.{eq-eqb, ne-eqb, le-ltb, eqb-true}
 use Rattle.picks.specs.Pick.{pick}
 use Rattle.picks.proofs.Picks.{pick-ap}
@@ -18,51 +18,10 @@ use Rattle.protocol.specs.declared.Deadline.{Deadline}
 use Rattle.protocol.specs.declared.Deadline.the-variants.{NoDeadline, At}
 use Rattle.protocol.specs.declared.SdoServerState.{SdoServerState}
 use Rattle.protocol.specs.declared.SdoServerState.the-variants.{Closed, Opening, Established, SegmentedDownload, SegmentedUpload}
-use Rattle.protocol.specs.declared.Connection.{Connection}
 use Rattle.protocol.specs.ConnectionTable.{sameClient, isClosed, soundUpload, soundDownload, soundState, transferDeadline, isPast, earlier}
-use Rattle.record.specs.Format.{byteAt, numberAt, big, clientOf, transferOf, stateOf, rows, tableOf}
+use Rattle.record.specs.Format.{byteAt, numberAt, big, clientOf, transferOf, stateOf}
 use Rattle.record.proofs.Reading.{number-more}
-use Rattle.packed.specs.Packed.{at, dueTime}
-
--- the table has eight records, and the one at a place is that of the place's bytes
-pub eight : (s : List ℕ) → length (tableOf s) ≡ 8
-unfolding tableOf rows
-eight s = refl
-
-pub record-there : (s : List ℕ) (d : Connection) (i : ℕ) → i < 8 → getD (tableOf s) i d ≡ at i s
-unfolding tableOf rows
-record-there s d zero h = refl
-record-there s d (suc zero) h = refl
-record-there s d (suc (suc zero)) h = refl
-record-there s d (suc (suc (suc zero))) h = refl
-record-there s d (suc (suc (suc (suc zero)))) h = refl
-record-there s d (suc (suc (suc (suc (suc zero))))) h = refl
-record-there s d (suc (suc (suc (suc (suc (suc zero)))))) h = refl
-record-there s d (suc (suc (suc (suc (suc (suc (suc zero))))))) h = refl
-record-there s d (suc (suc (suc (suc (suc (suc (suc (suc i)))))))) h = absurd (omega arith)
-
-pub record-past : (s : List ℕ) (d : Connection) (i : ℕ) → 8 ≤ i → getD (tableOf s) i d ≡ d
-unfolding tableOf rows
-record-past s d zero h = absurd (omega arith)
-record-past s d (suc zero) h = absurd (omega arith)
-record-past s d (suc (suc zero)) h = absurd (omega arith)
-record-past s d (suc (suc (suc zero))) h = absurd (omega arith)
-record-past s d (suc (suc (suc (suc zero)))) h = absurd (omega arith)
-record-past s d (suc (suc (suc (suc (suc zero))))) h = absurd (omega arith)
-record-past s d (suc (suc (suc (suc (suc (suc zero)))))) h = absurd (omega arith)
-record-past s d (suc (suc (suc (suc (suc (suc (suc zero))))))) h = absurd (omega arith)
-record-past s d (suc (suc (suc (suc (suc (suc (suc (suc i)))))))) h = refl
-
--- a number within a record's 40 bytes
-drop-take : (k m : ℕ) (l : List ℕ) → drop k (take (k + m) l) ≡ take m (drop k l)
-drop-take zero m l = rw (zero-add m)
-drop-take (suc k) m [] = rw (suc-add k m, take-nil m)
-drop-take (suc k) m (x ∷ l) = rw (suc-add k m) (drop-take k m l)
-
-pub number-in : (n k a : ℕ) (s : List ℕ) → k + n ≤ 40 → numberAt n k (take 40 (drop a s)) ≡ numberAt n (a + k) s
-number-in n k a s h =
-    let e : 40 ≡ k + (40 - k) = omega arith in
-    ap (λ z. le (take n (drop k (take z (drop a s))))) e ∙ rw (drop-take k (40 - k) (drop a s), take-take n (40 - k) (drop k (drop a s)) (omega arith), drop-drop k a s)
+use Rattle.packed.specs.Packed.{dueTime}
 
 -- what is true of a state, by its number
 pub state-ap : {A : Type 0} (f : SdoServerState → A) (s : List ℕ) → f (stateOf s) ≡ pick (eqb (byteAt 12 s) 0) (f Closed) (pick (eqb (byteAt 12 s) 1) (f Opening) (pick (eqb (byteAt 12 s) 2) (f Established) (pick (eqb (byteAt 12 s) 3) (f (SegmentedUpload (transferOf s))) (f (SegmentedDownload (transferOf s))))))

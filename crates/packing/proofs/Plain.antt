@@ -11,12 +11,13 @@ use lib.Seq.{take-suc, take-add, take-all, take-take, drop-drop, drop-cons, leng
 use borrow.Author.Tests.{eqb-true, ltb-true, ltb-false}
 use Rattle.picks.specs.Pick.{pick}
 use Rattle.picks.proofs.Keep.{by-test, of-both}
-use Rattle.octets.specs.Octets.{le, leBytes, AllBytes}
+use Rattle.octets.specs.Octets.{leBytes, AllBytes}
 use Rattle.octets.proofs.Bytes.{bytes-drop, bytes-take}
 use Rattle.octets.proofs.Little.{leBytes-le}
 use Rattle.protocol.specs.declared.Deadline.the-variants.{NoDeadline, At}
 use Rattle.record.specs.Format.{byteAt, numberAt, flag, big, bigBytes, clientBytes, clientOf, deadlineFlag, deadlineTime, transferBytes, transferOf, stateNumber, stateBytes, stateOf, recordBytes, recordOf, rows, tableBytes, tableOf}
 use Rattle.record.proofs.Reading.{state-is, byte-in}
+use Rattle.record.proofs.Places.{number-in}
 use Rattle.packing.specs.Plain.{rowAt, RowIn, SameClient, NoTransfer, SameTransfer, SameState, SameRecord}
 
 -- a part of a list by its first byte, and by its first n
@@ -25,12 +26,6 @@ part-byte m k r h = rw (drop-cons r k 0 h)
 
 part-more : (n m k : ℕ) (r : List ℕ) → take (n + m) (drop k r) ≡ take n (drop k r) ++ take m (drop (k + n) r)
 part-more n m k r = take-add n m (drop k r) ∙ rw (drop-drop n k r)
-
-part-within : (n k m : ℕ) (r : List ℕ) → k + n ≤ m → take n (drop k (take m r)) ≡ take n (drop k r)
-part-within n zero m r h = take-take n m r (omega arith)
-part-within n (suc k) zero r h = absurd (omega arith)
-part-within n (suc k) (suc m) [] h = refl
-part-within n (suc k) (suc m) (x ∷ r) h = part-within n k m r (omega arith)
 
 -- the bytes of the number that n bytes are, the first the most significant, and the first the lowest
 big-same : (n : ℕ) (s : List ℕ) → n ≤ length s → AllBytes s → bigBytes n (big n s) ≡ take n s
@@ -173,9 +168,6 @@ module _ (at : ℕ) (s : List ℕ) (h : RowIn at s) where
   row-long : length row ≡ 40
   row-long = let g = h .0 in let l = h .1 in length-take-le 40 (drop at s) (simp length-drop (omega arith))
 
-  number-in : (n k : ℕ) → k + n ≤ 40 → numberAt n k row ≡ numberAt n (at + k) s
-  number-in n k g = ap le (part-within n k 40 (drop at s) g ∙ ap (take n) (drop-drop k at s))
-
   pub asnd-at : byteAt (at + 1) s ≡ 0 → SameClient row
   asnd-at e = same-asnd row row-bytes row-long (byte-in at 1 s (omega arith) ∙ e)
 
@@ -186,11 +178,11 @@ module _ (at : ℕ) (s : List ℕ) (h : RowIn at s) where
 
   pub no-transfer-at : numberAt 8 (at + 13) s ≡ 0 → numberAt 8 (at + 21) s ≡ 0 → numberAt 8 (at + 29) s ≡ 0 → eqb (numberAt 8 (at + 32) s) 0 ≡ true → NoTransfer row
   no-transfer-at e f g t =
-      no-transfer row row-bytes row-long (number-in 8 13 (omega arith) ∙ e) (number-in 8 21 (omega arith) ∙ f) (number-in 8 29 (omega arith) ∙ g) (number-in 8 32 (omega arith) ∙ eqb-true (numberAt 8 (at + 32) s) 0 t)
+      no-transfer row row-bytes row-long (number-in 8 13 at s (omega arith) ∙ e) (number-in 8 21 at s (omega arith) ∙ f) (number-in 8 29 at s (omega arith) ∙ g) (number-in 8 32 at s (omega arith) ∙ eqb-true (numberAt 8 (at + 32) s) 0 t)
 
   transfer-at : byteAt (at + 39) s ≡ 0 → byteAt (at + 38) s ≤ 1 → byteAt (at + 25) s ≤ 1 → (eqb (byteAt (at + 25) s) 1 || eqb (numberAt 8 (at + 26) s) 0) ≡ true → SameTransfer row
   transfer-at z f g t =
-      same-transfer row row-bytes row-long (byte-in at 39 s (omega arith) ∙ z) (rw (byte-in at 38 s (omega arith)) f) (rw (byte-in at 25 s (omega arith)) g) (rw (byte-in at 25 s (omega arith), number-in 8 26 (omega arith)) t)
+      same-transfer row row-bytes row-long (byte-in at 39 s (omega arith) ∙ z) (rw (byte-in at 38 s (omega arith)) f) (rw (byte-in at 25 s (omega arith)) g) (rw (byte-in at 25 s (omega arith), number-in 8 26 at s (omega arith)) t)
 
   pub timed-at : byteAt (at + 39) s ≡ 0 → byteAt (at + 38) s ≤ 1 → byteAt (at + 25) s ≡ 1 → SameTransfer row
   timed-at z f e = transfer-at z f (omega arith) (rw e)

@@ -1,8 +1,8 @@
 -- Where the records of a table stand among its bytes, and what stores of whole records make of them.
-use Prim.Native.Nat.{ℕ, zero, suc, _+_, _*_, _-_, _<_, _≤_}
+use Prim.Native.Nat.{ℕ, suc, _+_, _*_, _-_, _<_, _≤_}
 use native.Mathlib.Omega.{arith}
 use mathlib.Core.Path.{_≡_, refl, sym, ap, _∙_}
-use mathlib.Core.List.{List, [], _∷_, _++_, append-assoc, map}
+use mathlib.Core.List.{List, [], _∷_, _++_, append-assoc}
 use lib.ListN.{length, getD, take, drop, set, length-drop, take-append-drop}
 use lib.Seq.{paste, take-at, drop-at, length-take-le, set-split, length-paste}
 use Rattle.octets.specs.Octets.{splice}
@@ -13,10 +13,11 @@ use Rattle.protocol.specs.ConnectionTable.{fresh}
 use Rattle.table.specs.Row.{putIn, droppedAt}
 use Rattle.table.proofs.Moves.{shift-in}
 use Rattle.table.proofs.Release.{dropped-made}
-use Rattle.record.specs.Format.{byteAt, recordBytes, recordOf, rows, tableBytes, tableOf}
+use Rattle.record.specs.Format.{byteAt, recordBytes, recordOf, tableBytes, tableOf}
 use Rattle.record.proofs.Reading.{byte-in}
 use Rattle.record.proofs.Writing.{length-record, length-table}
 use Rattle.record.proofs.Ranges.{length-tableOf}
+use Rattle.record.proofs.Places.{record-at}
 
 -- a part that is laid at the start of other bytes and read there again
 pub moved : (from len : ℕ) (s z : List ℕ) → from + len ≤ length s → len ≤ length z → take len (drop 0 (splice 0 (take len (drop from s)) z)) ≡ take len (drop from s)
@@ -78,20 +79,10 @@ inserted at n c t h l =
     let lp : at < length (paste t (at + 1) d m) = simp (length-paste t (at + 1) d m hp hm) (omega arith) in
     rw (e, f, table-drop at t (omega arith), pasted (at + 1) m d t hp hm, placed at c (paste t (at + 1) d m) lp, shift-in t at n c h l)
 
--- the record at a place of a table that is read
-row-at : (n at i : ℕ) (s : List ℕ) (d : Connection) → i < n → getD (map recordOf (rows n at s)) i d ≡ recordOf (take 40 (drop (at + 40 * i) s))
-unfolding rows
-row-at zero at i s d h = absurd (omega arith)
-row-at (suc n) at zero s d h = let e : at + 40 * 0 ≡ at = omega arith in rw e
-row-at (suc n) at (suc i) s d h = let e : at + 40 * suc i ≡ at + 40 + 40 * i = omega arith in rw e (row-at n (at + 40) i s d (omega arith))
-
-pub record-at : (i : ℕ) (s : List ℕ) (d : Connection) → i < 8 → getD (tableOf s) i d ≡ recordOf (take 40 (drop (40 * i) s))
-unfolding tableOf
-record-at i s d h = let e : 0 + 40 * i ≡ 40 * i = omega arith in rw e at (row-at 8 0 i s d h)
-
+-- the area number of the record at a place
 area-at : (i : ℕ) (s : List ℕ) (d : Connection) → i < 8 → getD (tableOf s) i d .area ≡ byteAt (40 * i + 9) s
 unfolding recordOf
-area-at i s d h = ap (λ (c : Connection). c .area) (record-at i s d h) ∙ byte-in (40 * i) 9 s (omega arith)
+area-at i s d h = ap (λ (c : Connection). c .area) (record-at s d i h) ∙ byte-in (40 * i) 9 s (omega arith)
 
 pub dropped : (i : ℕ) (s : List ℕ) → i < 8 → splice 280 (recordBytes (fresh (byteAt (40 * i + 9) s))) (splice (40 * i) (take (280 - 40 * i) (drop (40 * i + 40) (tableBytes (tableOf s)))) (tableBytes (tableOf s))) ≡ tableBytes (droppedAt i (tableOf s))
 dropped i s h =

@@ -2,4 +2,5 @@ pub mod Reading
 pub mod Writing
 pub mod RoundTrip
 pub mod Ranges
+pub mod Places
 pub mod Needed

@@ -286,15 +286,6 @@ fn lay_record(out: &mut [u8], c: Connection)
     octets::store_u8(out, 39, 0);
 }
 
-// A record's bytes.
-pub fn record_bytes(c: Connection) -> [u8; 40]
-    ensures { λ r. ⌜ r ≡ recordBytes c ⌝ }
-{
-    let mut b = [0; 40];
-    lay_record(&mut b, c);
-    b
-}
-
 // A record's bytes go to a place.
 fn put_record(out: &mut [u8], at: usize, c: Connection)
     requires { ⌜ at + 40 ≤ length (now out) ⌝ }

@@ -2,7 +2,7 @@
 use Rattle.record.specs.Format.{recordOf}
 use Rattle.protocol.specs.declared.Connection.{Connection}
 use Rattle.protocol.specs.ConnectionTable.{fresh}
-use Rattle.packed.proofs.Bytes.{record-there, record-past}
+use Rattle.record.proofs.Places.{record-at, record-past}
 use mathlib.Core.Path.{sym, ap, _∙_}
 use borrow.Author.Needs.{needs}
 use Rattle.packed.proofs.area_at.Statement.{statement}
@@ -12,7 +12,7 @@ returns : tie.Need-returns
 unfolding recordOf
 returns c =
     let a = c .before .before .args in
-    c .byte .ensures ∙ sym (ap (λ (r : Connection). r .area) (record-there (a .t .now) (fresh 0) (a .i) (c .before .if1 .taken)))
+    c .byte .ensures ∙ sym (ap (λ (r : Connection). r .area) (record-at (a .t .now) (fresh 0) (a .i) (c .before .if1 .taken)))
 
 returns-2 : tie.Need-returns-2
 returns-2 c = let a = c .before .args in sym (ap (λ (r : Connection). r .area) (record-past (a .t .now) (fresh 0) (a .i) (c .if1 .left)))

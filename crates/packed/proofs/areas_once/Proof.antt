@@ -2,7 +2,8 @@
 use Rattle.table.proofs.Areas.{unseen, mark, areas-pass}
 use Rattle.protocol.specs.ConnectionTable.{fresh, areasOnce}
 use Rattle.record.specs.Format.{recordOf, tableOf}
-use Rattle.packed.proofs.Bytes.{eight, record-there}
+use Rattle.record.proofs.Ranges.{length-tableOf}
+use Rattle.record.proofs.Places.{record-at}
 use Rattle.picks.proofs.Fold.{checks-more, checks-not, checks-end}
 use Rattle.picks.specs.Pick.{checks}
 use borrow.Author.Tests.{lt-ltb, le-ltb}
@@ -30,7 +31,7 @@ returns c =
     let l = c .before .before .before .before .loop in
     let a = c .before .before .before .before .before .args in
     let s = a .t .now in
-    checks-not unseen mark (tableOf s) _ (l .seen) (l .i) (l .inv .2) (fresh 0) (omega (arith, eight s)) (rw (record-there s (fresh 0) (l .i) (omega arith), ← c .before .before .byte .ensures, lt-ltb _ _ (c .before .if1 .taken), c .if2 .taken))
+    checks-not unseen mark (tableOf s) _ (l .seen) (l .i) (l .inv .2) (fresh 0) (omega (arith, length-tableOf s)) (rw (record-at s (fresh 0) (l .i) (omega arith), ← c .before .before .byte .ensures, lt-ltb _ _ (c .before .if1 .taken), c .if2 .taken))
 
 returns-2 : tie.Need-returns-2 Inv-loop μ-loop
 unfolding recordOf
@@ -38,7 +39,7 @@ returns-2 c =
     let l = c .before .before .before .loop in
     let a = c .before .before .before .before .args in
     let s = a .t .now in
-    checks-not unseen mark (tableOf s) _ (l .seen) (l .i) (l .inv .2) (fresh 0) (omega (arith, eight s)) (rw (record-there s (fresh 0) (l .i) (omega arith), ← c .before .byte .ensures, le-ltb _ _ (c .if1 .left)))
+    checks-not unseen mark (tableOf s) _ (l .seen) (l .i) (l .inv .2) (fresh 0) (omega (arith, length-tableOf s)) (rw (record-at s (fresh 0) (l .i) (omega arith), ← c .before .byte .ensures, le-ltb _ _ (c .if1 .left)))
 
 loop-again : tie.Need-loop-again Inv-loop μ-loop
 unfolding recordOf
@@ -46,14 +47,14 @@ loop-again c =
     let l = c .before .before .before .before .loop in
     let a = c .before .before .before .before .before .args in
     let s = a .t .now in
-    (search needs, search needs, checks-more unseen mark (tableOf s) _ (l .seen) (l .i) (l .inv .2) (fresh 0) (omega (arith, eight s)) (rw (record-there s (fresh 0) (l .i) (omega arith), ← c .before .before .byte .ensures, lt-ltb _ _ (c .before .if1 .taken), c .if2 .left)) ∙ ap (λ r. checks unseen mark (mark (l .seen) r) (drop (l .i + 1) (tableOf s))) (record-there s (fresh 0) (l .i) (omega arith)) ∙ ap (λ n. checks unseen mark (set (l .seen) n true) (drop (l .i + 1) (tableOf s))) (sym (c .before .before .byte .ensures)))
+    (search needs, search needs, checks-more unseen mark (tableOf s) _ (l .seen) (l .i) (l .inv .2) (fresh 0) (omega (arith, length-tableOf s)) (rw (record-at s (fresh 0) (l .i) (omega arith), ← c .before .before .byte .ensures, lt-ltb _ _ (c .before .if1 .taken), c .if2 .left)) ∙ ap (λ r. checks unseen mark (mark (l .seen) r) (drop (l .i + 1) (tableOf s))) (record-at s (fresh 0) (l .i) (omega arith)) ∙ ap (λ n. checks unseen mark (set (l .seen) n true) (drop (l .i + 1) (tableOf s))) (sym (c .before .before .byte .ensures)))
 
 returns-3 : tie.Need-returns-3 Inv-loop μ-loop
 returns-3 c =
     let l = c .before .loop in
     let a = c .before .before .args in
     let s = a .t .now in
-    checks-end unseen mark (tableOf s) _ (l .seen) (l .i) (l .inv .2) (omega (arith, eight s))
+    checks-end unseen mark (tableOf s) _ (l .seen) (l .i) (l .inv .2) (omega (arith, length-tableOf s))
 
 pub areas-once-spec : {M : Type 1} → statement M
 areas-once-spec =

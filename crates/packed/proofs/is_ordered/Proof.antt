@@ -1,7 +1,8 @@
 -- A loop that asks of every two neighbours, and of the last record.
 use Rattle.protocol.specs.ConnectionTable.{fresh, ordered}
 use Rattle.record.specs.Format.{tableOf}
-use Rattle.packed.proofs.Bytes.{eight, record-there}
+use Rattle.record.proofs.Ranges.{length-tableOf}
+use Rattle.record.proofs.Places.{record-at}
 use Rattle.picks.proofs.Picks.{flag}
 use Rattle.table.proofs.Order.{order-more, order-not, order-end}
 use lib.ListN.{drop}
@@ -23,14 +24,14 @@ loop-again c =
     let l = c .before .before .before .loop in
     let a = c .before .before .before .before .args in
     let s = a .t .now in
-    (search needs, order-more (tableOf s) (l .i) (fresh 0) (l .inv .1) (omega (arith, eight s)) (rw (record-there s (fresh 0) (l .i) (omega arith), record-there s (fresh 0) (l .i + 1) (omega arith)) (flag (c .before .follows-at .ensures) (c .if1 .taken))))
+    (search needs, order-more (tableOf s) (l .i) (fresh 0) (l .inv .1) (omega (arith, length-tableOf s)) (rw (record-at s (fresh 0) (l .i) (omega arith), record-at s (fresh 0) (l .i + 1) (omega arith)) (flag (c .before .follows-at .ensures) (c .if1 .taken))))
 
 returns : tie.Need-returns Inv-loop μ-loop
 returns c =
     let l = c .before .before .before .loop in
     let a = c .before .before .before .before .args in
     let s = a .t .now in
-    order-not (tableOf s) (l .i) (fresh 0) (l .inv .1) (omega (arith, eight s)) (rw (record-there s (fresh 0) (l .i) (omega arith), record-there s (fresh 0) (l .i + 1) (omega arith)) (flag (c .before .follows-at .ensures) (c .if1 .left)))
+    order-not (tableOf s) (l .i) (fresh 0) (l .inv .1) (omega (arith, length-tableOf s)) (rw (record-at s (fresh 0) (l .i) (omega arith), record-at s (fresh 0) (l .i + 1) (omega arith)) (flag (c .before .follows-at .ensures) (c .if1 .left)))
 
 returns-2 : tie.Need-returns-2 Inv-loop μ-loop
 returns-2 c =
@@ -38,7 +39,7 @@ returns-2 c =
     let a = c .before .before .before .before .args in
     let s = a .t .now in
     let e : l .i ≡ 7 = omega arith in
-    rw (c .before .used-at .ensures, c .fresh-at .ensures, ← record-there s (fresh 0) 7 (omega arith)) (order-end (tableOf s) 7 (fresh 0) (rw e at (l .inv .1)) (eight s))
+    rw (c .before .used-at .ensures, c .fresh-at .ensures, ← record-at s (fresh 0) 7 (omega arith)) (order-end (tableOf s) 7 (fresh 0) (rw e at (l .inv .1)) (length-tableOf s))
 
 pub is-ordered-spec : {M : Type 1} → statement M
 is-ordered-spec =

@@ -2,7 +2,8 @@
 use Rattle.packed.specs.Packed.{isQuiet}
 use Rattle.protocol.specs.ConnectionTable.{fresh}
 use Rattle.record.specs.Format.{tableOf}
-use Rattle.packed.proofs.Bytes.{eight, record-there}
+use Rattle.record.proofs.Ranges.{length-tableOf}
+use Rattle.record.proofs.Places.{record-at}
 use Rattle.picks.proofs.Picks.{flag}
 use Rattle.table.proofs.Walk.{every-more, every-not, every-end}
 use Rattle.picks.specs.Pick.{every}
@@ -25,21 +26,21 @@ loop-again c =
     let l = c .before .before .before .loop in
     let a = c .before .before .before .before .args in
     let s = a .t .now in
-    (search needs, every-more (isQuiet (a .clock)) (tableOf s) (l .i) (fresh 0) (omega (arith, eight s)) (ap (isQuiet (a .clock)) (record-there s (fresh 0) (l .i) (omega arith)) ∙ flag (c .before .quiet-at .ensures) (c .if1 .taken)) (l .inv .1))
+    (search needs, every-more (isQuiet (a .clock)) (tableOf s) (l .i) (fresh 0) (omega (arith, length-tableOf s)) (ap (isQuiet (a .clock)) (record-at s (fresh 0) (l .i) (omega arith)) ∙ flag (c .before .quiet-at .ensures) (c .if1 .taken)) (l .inv .1))
 
 returns : tie.Need-returns Inv-loop μ-loop
 returns c =
     let l = c .before .before .before .loop in
     let a = c .before .before .before .before .args in
     let s = a .t .now in
-    every-not (isQuiet (a .clock)) (tableOf s) (l .i) (fresh 0) (omega (arith, eight s)) (ap (isQuiet (a .clock)) (record-there s (fresh 0) (l .i) (omega arith)) ∙ flag (c .before .quiet-at .ensures) (c .if1 .left)) (l .inv .1)
+    every-not (isQuiet (a .clock)) (tableOf s) (l .i) (fresh 0) (omega (arith, length-tableOf s)) (ap (isQuiet (a .clock)) (record-at s (fresh 0) (l .i) (omega arith)) ∙ flag (c .before .quiet-at .ensures) (c .if1 .left)) (l .inv .1)
 
 returns-2 : tie.Need-returns-2 Inv-loop μ-loop
 returns-2 c =
     let l = c .before .loop in
     let a = c .before .before .args in
     let s = a .t .now in
-    every-end (isQuiet (a .clock)) (tableOf s) (l .i) (omega (arith, eight s)) (l .inv .1)
+    every-end (isQuiet (a .clock)) (tableOf s) (l .i) (omega (arith, length-tableOf s)) (l .inv .1)
 
 pub is-quiet-spec : {M : Type 1} → statement M
 is-quiet-spec =

@@ -2,7 +2,9 @@
 use Rattle.protocol.specs.ConnectionTable.{fresh, earlier, deadlineOf, earliest}
 use Rattle.record.specs.Format.{tableOf}
 use Rattle.packed.specs.Packed.{at}
-use Rattle.packed.proofs.Bytes.{eight, record-there, earlier-none}
+use Rattle.record.proofs.Ranges.{length-tableOf}
+use Rattle.record.proofs.Places.{record-at}
+use Rattle.packed.proofs.Bytes.{earlier-none}
 use Rattle.picks.proofs.Picks.{flag, pick-t, pick-f}
 use Rattle.picks.proofs.Fold.{fold-more, fold-end}
 use Rattle.picks.specs.Pick.{fold}
@@ -36,14 +38,14 @@ loop-again c =
     (λ w. w .3 ∙ w .2 .ensures ∙ ap (earlier (l .d)) (w .1 .ensures ∙ pick-t _ _ _ _ (flag used (w .0 .taken)) refl))
     (λ w. w .1 ∙ sym (earlier-none (l .d)) ∙ ap (earlier (l .d)) (pick-f _ _ _ _ (flag used (w .0 .left)) refl))
     (c .if1 .came) in
-    (search needs, rw (e, ← record-there s (fresh 0) (l .i) (omega arith)) (fold-more (λ e r. earlier e (deadlineOf r)) (tableOf s) _ (l .d) (l .i) (l .inv .1) (fresh 0) (omega (arith, eight s))))
+    (search needs, rw (e, ← record-at s (fresh 0) (l .i) (omega arith)) (fold-more (λ e r. earlier e (deadlineOf r)) (tableOf s) _ (l .d) (l .i) (l .inv .1) (fresh 0) (omega (arith, length-tableOf s))))
 
 returns : tie.Need-returns Inv-loop μ-loop
 returns c =
     let l = c .before .loop in
     let a = c .before .before .args in
     let s = a .t .now in
-    fold-end (λ e r. earlier e (deadlineOf r)) (tableOf s) _ (l .d) (l .i) (l .inv .1) (omega (arith, eight s))
+    fold-end (λ e r. earlier e (deadlineOf r)) (tableOf s) _ (l .d) (l .i) (l .inv .1) (omega (arith, length-tableOf s))
 
 pub next-deadline-spec : {M : Type 1} → statement M
 next-deadline-spec =

@@ -2,7 +2,8 @@
 use Rattle.protocol.specs.ConnectionTable.{holds, placeOf}
 use Rattle.protocol.specs.ConnectionTable.{fresh}
 use Rattle.record.specs.Format.{tableOf}
-use Rattle.packed.proofs.Bytes.{eight, record-there}
+use Rattle.record.proofs.Ranges.{length-tableOf}
+use Rattle.record.proofs.Places.{record-at}
 use Rattle.picks.proofs.Picks.{flag}
 use Rattle.picks.proofs.First.{first-more, first-here, first-none}
 use Rattle.picks.specs.Pick.{first}
@@ -26,14 +27,14 @@ returns c =
     let l = c .before .before .before .loop in
     let a = c .before .before .before .before .args in
     let s = a .t .now in
-    first-here (holds (a .client)) (tableOf s) (l .i) (fresh 0) (omega (arith, eight s)) (ap (holds (a .client)) (record-there s (fresh 0) (l .i) (omega arith)) ∙ flag (c .before .held-at .ensures) (c .if1 .taken)) (l .inv .1)
+    first-here (holds (a .client)) (tableOf s) (l .i) (fresh 0) (omega (arith, length-tableOf s)) (ap (holds (a .client)) (record-at s (fresh 0) (l .i) (omega arith)) ∙ flag (c .before .held-at .ensures) (c .if1 .taken)) (l .inv .1)
 
 loop-again : tie.Need-loop-again Inv-loop μ-loop
 loop-again c =
     let l = c .before .before .before .loop in
     let a = c .before .before .before .before .args in
     let s = a .t .now in
-    (search needs, first-more (holds (a .client)) (tableOf s) (l .i) (fresh 0) (omega (arith, eight s)) (ap (holds (a .client)) (record-there s (fresh 0) (l .i) (omega arith)) ∙ flag (c .before .held-at .ensures) (c .if1 .left)) (l .inv .1))
+    (search needs, first-more (holds (a .client)) (tableOf s) (l .i) (fresh 0) (omega (arith, length-tableOf s)) (ap (holds (a .client)) (record-at s (fresh 0) (l .i) (omega arith)) ∙ flag (c .before .held-at .ensures) (c .if1 .left)) (l .inv .1))
 
 returns-2 : tie.Need-returns-2 Inv-loop μ-loop
 unfolding placeOf
@@ -41,7 +42,7 @@ returns-2 c =
     let l = c .before .loop in
     let a = c .before .before .args in
     let s = a .t .now in
-    first-none (holds (a .client)) (tableOf s) (l .i) (omega (arith, eight s)) (l .inv .1)
+    first-none (holds (a .client)) (tableOf s) (l .i) (omega (arith, length-tableOf s)) (l .inv .1)
 
 pub place-of-spec : {M : Type 1} → statement M
 place-of-spec =

@@ -2,7 +2,7 @@
 use Rattle.record.specs.Format.{recordOf}
 use Rattle.protocol.specs.ConnectionTable.{fresh}
 use Rattle.packed.specs.Packed.{bytesOf}
-use Rattle.packed.proofs.Bytes.{record-there, record-past}
+use Rattle.record.proofs.Places.{record-at, record-past}
 use Rattle.record.proofs.Writing.{splice-whole}
 use lib.Seq.{length-take-le}
 use lib.ListN.{length, drop, replicate, length-drop}
@@ -18,7 +18,7 @@ returns c =
     let a = c .before .before .before .before .before .before .before .before .args in
     let s = a .t .now in
     let l : length (bytesOf (a .i) s) ≡ 40 = length-take-le 40 (drop (40 * a .i) s) (simp length-drop (omega arith)) in
-    c .record-of .ensures ∙ ap recordOf (c .before .before .before .copy-at .ensures ∙ rw (c .before .before .before .before .part .ensures) (splice-whole (bytesOf (a .i) s) (replicate 40 0) l)) ∙ sym (record-there s (fresh 0) (a .i) (c .before .before .before .before .before .before .before .if1 .taken))
+    c .record-of .ensures ∙ ap recordOf (c .before .before .before .copy-at .ensures ∙ rw (c .before .before .before .before .part .ensures) (splice-whole (bytesOf (a .i) s) (replicate 40 0) l)) ∙ sym (record-at s (fresh 0) (a .i) (c .before .before .before .before .before .before .before .if1 .taken))
 
 returns-2 : tie.Need-returns-2
 returns-2 c = let a = c .before .before .args in c .fresh .ensures ∙ sym (record-past (a .t .now) (fresh 0) (a .i) (omega arith))

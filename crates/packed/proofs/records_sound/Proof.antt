@@ -1,7 +1,8 @@
 -- A loop that asks of every record up to the first unused one.
 use Rattle.protocol.specs.ConnectionTable.{fresh, isUsed, soundRecord}
 use Rattle.record.specs.Format.{tableOf}
-use Rattle.packed.proofs.Bytes.{eight, record-there}
+use Rattle.record.proofs.Ranges.{length-tableOf}
+use Rattle.record.proofs.Places.{record-at}
 use Rattle.packed.proofs.Fresh.{unused-sound}
 use Rattle.picks.proofs.Picks.{flag}
 use Rattle.table.proofs.Walk.{every-more, every-not, every-end}
@@ -25,28 +26,28 @@ loop-again c =
     let l = c .before .before .before .before .before .loop in
     let a = c .before .before .before .before .before .before .args in
     let s = a .t .now in
-    (search needs, every-more soundRecord (tableOf s) (l .i) (fresh 0) (omega (arith, eight s)) (ap soundRecord (record-there s (fresh 0) (l .i) (omega arith)) ∙ flag (c .before .sound-at .ensures) (c .if2 .taken)) (l .inv .1))
+    (search needs, every-more soundRecord (tableOf s) (l .i) (fresh 0) (omega (arith, length-tableOf s)) (ap soundRecord (record-at s (fresh 0) (l .i) (omega arith)) ∙ flag (c .before .sound-at .ensures) (c .if2 .taken)) (l .inv .1))
 
 returns : tie.Need-returns Inv-loop μ-loop
 returns c =
     let l = c .before .before .before .before .before .loop in
     let a = c .before .before .before .before .before .before .args in
     let s = a .t .now in
-    every-not soundRecord (tableOf s) (l .i) (fresh 0) (omega (arith, eight s)) (ap soundRecord (record-there s (fresh 0) (l .i) (omega arith)) ∙ flag (c .before .sound-at .ensures) (c .if2 .left)) (l .inv .1)
+    every-not soundRecord (tableOf s) (l .i) (fresh 0) (omega (arith, length-tableOf s)) (ap soundRecord (record-at s (fresh 0) (l .i) (omega arith)) ∙ flag (c .before .sound-at .ensures) (c .if2 .left)) (l .inv .1)
 
 returns-2 : tie.Need-returns-2 Inv-loop μ-loop
 returns-2 c =
     let l = c .before .before .before .loop in
     let b = c .before .before .before .before in
     let s = b .args .t .now in
-    sym (l .inv .1 ∙ unused-sound (tableOf s) (l .i) (fresh 0) (b .pre) (omega (arith, eight s)) (ap isUsed (record-there s (fresh 0) (l .i) (omega arith)) ∙ flag (c .before .used-at .ensures) (c .if1 .left)))
+    sym (l .inv .1 ∙ unused-sound (tableOf s) (l .i) (fresh 0) (b .pre) (omega (arith, length-tableOf s)) (ap isUsed (record-at s (fresh 0) (l .i) (omega arith)) ∙ flag (c .before .used-at .ensures) (c .if1 .left)))
 
 returns-3 : tie.Need-returns-3 Inv-loop μ-loop
 returns-3 c =
     let l = c .before .loop in
     let a = c .before .before .args in
     let s = a .t .now in
-    every-end soundRecord (tableOf s) (l .i) (omega (arith, eight s)) (l .inv .1)
+    every-end soundRecord (tableOf s) (l .i) (omega (arith, length-tableOf s)) (l .inv .1)
 
 pub records-sound-spec : {M : Type 1} → statement M
 records-sound-spec =

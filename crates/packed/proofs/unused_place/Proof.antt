@@ -2,7 +2,8 @@
 use Rattle.table.specs.Row.{unusedPlace}
 use Rattle.protocol.specs.ConnectionTable.{isUnused, fresh}
 use Rattle.record.specs.Format.{tableOf}
-use Rattle.packed.proofs.Bytes.{eight, record-there}
+use Rattle.record.proofs.Ranges.{length-tableOf}
+use Rattle.record.proofs.Places.{record-at}
 use Rattle.picks.proofs.Picks.{flag}
 use Rattle.picks.proofs.First.{first-more, first-here, first-none}
 use Rattle.picks.specs.Pick.{first}
@@ -26,7 +27,7 @@ loop-again c =
     let l = c .before .before .before .loop in
     let a = c .before .before .before .before .args in
     let s = a .t .now in
-    (search needs, first-more isUnused (tableOf s) (l .i) (fresh 0) (omega (arith, eight s)) (ap isUnused (record-there s (fresh 0) (l .i) (omega arith)) ∙ ap not (flag (c .before .used-at .ensures) (c .if1 .taken))) (l .inv .1))
+    (search needs, first-more isUnused (tableOf s) (l .i) (fresh 0) (omega (arith, length-tableOf s)) (ap isUnused (record-at s (fresh 0) (l .i) (omega arith)) ∙ ap not (flag (c .before .used-at .ensures) (c .if1 .taken))) (l .inv .1))
 
 returns : tie.Need-returns Inv-loop μ-loop
 unfolding unusedPlace
@@ -34,7 +35,7 @@ returns c =
     let l = c .before .before .before .loop in
     let a = c .before .before .before .before .args in
     let s = a .t .now in
-    first-here isUnused (tableOf s) (l .i) (fresh 0) (omega (arith, eight s)) (ap isUnused (record-there s (fresh 0) (l .i) (omega arith)) ∙ ap not (flag (c .before .used-at .ensures) (c .if1 .left))) (l .inv .1)
+    first-here isUnused (tableOf s) (l .i) (fresh 0) (omega (arith, length-tableOf s)) (ap isUnused (record-at s (fresh 0) (l .i) (omega arith)) ∙ ap not (flag (c .before .used-at .ensures) (c .if1 .left))) (l .inv .1)
 
 returns-2 : tie.Need-returns-2 Inv-loop μ-loop
 unfolding unusedPlace
@@ -42,7 +43,7 @@ returns-2 c =
     let l = c .before .loop in
     let a = c .before .before .args in
     let s = a .t .now in
-    first-none isUnused (tableOf s) (l .i) (omega (arith, eight s)) (l .inv .1)
+    first-none isUnused (tableOf s) (l .i) (omega (arith, length-tableOf s)) (l .inv .1)
 
 pub unused-place-spec : {M : Type 1} → statement M
 unused-place-spec =
