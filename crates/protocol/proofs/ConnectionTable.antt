@@ -125,7 +125,7 @@ closed-eq Established e = not-both e refl
 closed-eq (SegmentedDownload t) e = not-both e refl
 closed-eq (SegmentedUpload t) e = not-both e refl
 
-fresh-eq : (r : Connection) → isFresh r ≡ true → r ≡ fresh (r .area)
+pub fresh-eq : (r : Connection) → isFresh r ≡ true → r ≡ fresh (r .area)
 fresh-eq r e =
     let a = isUnused r in
     let b = sameClient (r .client) (Asnd 0 0) in
@@ -147,7 +147,7 @@ fresh-behind : (r x : Connection) → isFresh x ≡ true → behind r x ≡ true
 fresh-behind r x e = behind-by r x (λ u. not-both u (not-true (x .used) (fresh-unused x e)))
 
 -- the order of a table, by its first record
-unused-first : (r : Connection) (rs : List Connection) → r .used ≡ false → ordered (r ∷ rs) ≡ true → every isFresh (r ∷ rs) ≡ true
+pub unused-first : (r : Connection) (rs : List Connection) → r .used ≡ false → ordered (r ∷ rs) ≡ true → every isFresh (r ∷ rs) ≡ true
 unfolding ordered
 unused-first r rs h e = let p = of-both (isFresh r) (every isFresh rs) (pick-f _ _ _ _ h refl ∙ e) in every-cons isFresh r rs (p .0) (p .1)
 
@@ -226,7 +226,7 @@ ordered-set (x ∷ xs) (suc i) r d e h u v c =
     (ordered-set xs i r d (used-first x xs k e .1) (omega arith) u v c))
     (λ k. not-both u (not-true (getD xs i d .used) (fresh-unused (getD xs i d) (every-at isFresh xs i d (of-every isFresh x xs (unused-first x xs k e) .1) (omega arith)))))
 
-ordered-rest : (r : Connection) (rs : List Connection) → ordered (r ∷ rs) ≡ true → ordered rs ≡ true
+pub ordered-rest : (r : Connection) (rs : List Connection) → ordered (r ∷ rs) ≡ true → ordered rs ≡ true
 ordered-rest r rs e =
     by-test (r .used) (λ u. used-first r rs u e .1) (λ u. fresh-ordered rs (of-every isFresh r rs (unused-first r rs u e) .1))
 
