@@ -39,7 +39,7 @@ same-left : {r r' : SdoAnswer} {t t' a a' b b' : List ℕ} (i : List ℕ) → r 
 same-left i e f g h = rw (e, f, g, h)
 
 -- a late refusal and an answer leave the bytes of the records
-late-left : (n : ℕ) (row : List Connection) (bytes : List ℕ) → 7 < n → tableBytes row ≡ tableLeft n row bytes
+pub late-left : (n : ℕ) (row : List Connection) (bytes : List ℕ) → 7 < n → tableBytes row ≡ tableLeft n row bytes
 unfolding tableLeft
 late-left n row bytes h = pick-f _ _ _ _ (both-not (ltb 0 n) (le-ltb n 8 (omega arith))) refl
   where

@@ -6,3 +6,4 @@ pub mod Through
 pub mod Refusals
 pub mod Narrow
 pub mod ReadBack
+pub mod BytesSeries
