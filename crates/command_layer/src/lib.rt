@@ -91,7 +91,7 @@ fn write_command(
     let kind = h.segmentation;
     let size = m.total;
     let total = command::total_number(size);
-    handlers::write_by_index(c, share, image, clock, h.transaction, kind, total, payload)
+    downloads::write_by_index(c, share, image, clock, h.transaction, kind, total, payload)
 }
 
 // Whether a command of an upload's transaction asks for the next piece.

@@ -1,9 +1,9 @@
--- The walk through the entries of an image: what each turn makes of the soundness and of the look-up.
+-- The walk through the entries of an image: what each turn makes of the look-up.
 use Prim.Native.Nat.{ℕ, zero, suc, _+_, _*_, _-_, _≤_, _<_}
 use native.Mathlib.Omega.{arith}
 use mathlib.Core.Path.{_≡_, refl, sym, ap, _∙_}
 use mathlib.Core.Bool.{Bool, true, false, _&&_, _||_}
-use mathlib.Core.List.{List, _∷_}
+use mathlib.Core.List.{List}
 use lib.ListN.{length, drop-of-length-le, List·getD-eq-default}
 use lib.Dec.{eqb}
 use Rattle.picks.specs.Pick.{pick}
@@ -11,7 +11,8 @@ use Rattle.octets.specs.Octets.{le}
 use Rattle.protocol.specs.declared.Entry.{Entry}
 use Rattle.protocol.specs.declared.Lookup.{Lookup}
 use Rattle.protocol.specs.declared.Lookup.the-variants.{NoObject, NoSubIndex, Found}
-use Rattle.protocol.specs.DictionaryImage.{entryAt, entriesFrom, key, soundEntry, soundEntries, isAt, lookupIn}
+use Rattle.protocol.specs.DictionaryImage.{entryAt, entriesFrom, isAt, lookupIn}
+use Rattle.entries.proofs.Walk.{here}
 
 -- an entry behind the end is one of zeros
 past-index : (image : List ℕ) (at : ℕ) → length image ≤ at → entryAt image at .index ≡ 0
@@ -35,32 +36,15 @@ seen-again false false = refl
 
 -- a turn at the entry e, which is the one at position i of n
 module _ (image : List ℕ) (n i : ℕ) (e : Entry) (h : i < n) (is : e ≡ entryAt image (2 + 12 * i)) where
-  here : entriesFrom image (2 + 12 * i) (n - i) ≡ e ∷ entriesFrom image (2 + 12 * (i + 1)) (n - (i + 1))
-  unfolding entriesFrom
-  here =
-      let p : n - i ≡ suc (n - (i + 1)) = omega arith in
-      let q : 2 + 12 * (i + 1) ≡ 2 + 12 * i + 12 = omega arith in
-      rw (is, p, q)
-
-  module _ (end least start : ℕ) {all : Bool} (inv : all ≡ soundEntries end least start (entriesFrom image (2 + 12 * i) (n - i))) where
-    -- a sound entry leaves the rest, and one that is not sound ends the walk
-    pub sound-more : (k : ℕ) → k ≡ key e → soundEntry least start e ≡ true → all ≡ soundEntries end (k + 1) (start + e .capacity) (entriesFrom image (2 + 12 * (i + 1)) (n - (i + 1)))
-    unfolding soundEntries
-    sound-more k p t = inv ∙ (rw (here, t, p))
-
-    pub sound-not : soundEntry least start e ≡ false → false ≡ all
-    unfolding soundEntries
-    sound-not t = sym (inv ∙ (rw (here, t)))
-
   module _ (index sub : ℕ) (seen : Bool) {all : Lookup} (inv : all ≡ lookupIn (entriesFrom image (2 + 12 * i) (n - i)) index sub seen) where
     -- the entry that was asked for ends the walk, and another leaves the rest
     pub lookup-here : isAt index sub e ≡ true → Found e ≡ all
     unfolding lookupIn pick
-    lookup-here t = sym (inv ∙ (rw (here, t)))
+    lookup-here t = sym (inv ∙ (rw (here image n i e h is, t)))
 
     pub lookup-more : isAt index sub e ≡ false → all ≡ lookupIn (entriesFrom image (2 + 12 * (i + 1)) (n - (i + 1))) index sub (seen || eqb (e .index) index)
     unfolding lookupIn pick
-    lookup-more t = inv ∙ (rw (here, t))
+    lookup-more t = inv ∙ (rw (here image n i e h is, t))
 
     -- an entry behind the end that is not it ends the walk too
     pub lookup-past : length image ≤ 2 + 12 * i → isAt index sub e ≡ false → pick (seen || eqb (e .index) index) NoSubIndex NoObject ≡ all
@@ -71,11 +55,6 @@ module _ (image : List ℕ) (n i : ℕ) (e : Entry) (h : i < n) (is : e ≡ entr
         sym (lookup-more t ∙ rw p (lookup-zeros image (2 + 12 * (i + 1)) (n - (i + 1)) index sub (seen || eqb 0 index) (omega arith) f (seen-again seen (eqb 0 index))))
 
 -- at the end of the entries
-module _ (image : List ℕ) (at n : ℕ) (none : n ≡ 0) where
-  pub sound-end : (end least start : ℕ) {all : Bool} → all ≡ soundEntries end least start (entriesFrom image at n) → eqb start end ≡ all
-  unfolding soundEntries entriesFrom
-  sound-end end least start inv = sym (inv ∙ (rw none))
-
-  pub lookup-end : (index sub : ℕ) (seen : Bool) {all : Lookup} → all ≡ lookupIn (entriesFrom image at n) index sub seen → pick seen NoSubIndex NoObject ≡ all
-  unfolding lookupIn entriesFrom
-  lookup-end index sub seen inv = sym (inv ∙ (rw none))
+pub lookup-end : (image : List ℕ) (at n : ℕ) → n ≡ 0 → (index sub : ℕ) (seen : Bool) {all : Lookup} → all ≡ lookupIn (entriesFrom image at n) index sub seen → pick seen NoSubIndex NoObject ≡ all
+unfolding lookupIn entriesFrom
+lookup-end image at n none index sub seen inv = sym (inv ∙ (rw none))

@@ -1,4 +1,4 @@
-// Reads and writes by index, and the segment size (handlers.rs). The client's own share of the area is lent to the copy at an upload's start and to what a download stores.
+// The answers to commands, reads by index, and the segment size (handlers.rs). The client's own share of the area is lent to the copy at an upload's start.
 use protocol::Access;
 use protocol::Action;
 use protocol::Body;
@@ -14,14 +14,13 @@ use protocol::SdoTransferState;
 use protocol::Segmentation;
 ghost use mathlib.Core.Path.{_≡_};
 ghost use mathlib.Core.List.{List, []};
-ghost use Prim.Native.Nat.{ℕ, _+_, _≤_, min};
+ghost use Prim.Native.Nat.{ℕ, _≤_};
 ghost use lib.ListN.{length, take};
 ghost use lib.Dec.{ltb};
 ghost use Rattle.picks.specs.Pick.{pick};
 ghost use Rattle.octets.specs.Octets.{le};
-ghost use Rattle.protocol.specs.Constants.{OFFSET-MAX};
 ghost use Rattle.protocol.specs.DictionaryImage.{valueOf};
-ghost use Rattle.protocol.specs.TransferRecord.{bodyBytes, bodyPart, toldAction, aborts, replies, newUpload, readValue, readByIndex, writeObject, writeExpedited, newDownload, writeInitiate, writeSegment, writeComplete, downloadStep, writeData, writeByIndex, maxSegmentSize};
+ghost use Rattle.protocol.specs.TransferRecord.{bodyBytes, bodyPart, toldAction, aborts, replies, newUpload, readValue, readByIndex, maxSegmentSize};
 
 // An abort: the record is closed and its numbers are reset.
 pub fn abort(c: Connection, transaction: u8, code: u32) -> Action
@@ -111,7 +110,7 @@ fn read_entry(
 ) -> Action
     ensures { λ r. ⌜ toldAction r (now (share .exit)) (now (image .entry)) ≡ readValue c (now (share .entry)) (now (image .entry)) clock transaction index sub (valueOf (now (image .entry)) e) ⌝ }
 {
-    let value = dictionary::value(image, e);
+    let value = entries::value(image, e);
     let total = total_of(value, e.length);
     if total <= 1452 {
         return reply(
@@ -142,259 +141,10 @@ pub fn read_by_index(
     }
     let index = octets::u16_at(payload, 0);
     let sub = octets::byte_at(payload, 2);
-    let access = dictionary::readable(dictionary::lookup(image, index, sub));
+    let access = entries::readable(dictionary::lookup(image, index, sub));
     match access {
         Access::Denied(code) => abort(c, transaction, code),
         Access::Granted(e) => read_entry(c, share, image, clock, transaction, index, sub, e),
-    }
-}
-
-// A write of an object's value with its checks; `next` is the record after it.
-fn write_object(
-    c: Connection,
-    next: Connection,
-    image: &mut [u8],
-    transaction: u8,
-    index: u16,
-    sub: u8,
-    bytes: &[u8],
-) -> Action
-    ensures { λ r. ⌜ ((share : List ℕ) (clock : ℕ) → toldAction r share (now (image .exit)) ≡ writeObject c share (now (image .entry)) clock transaction next index sub (now (bytes .entry))) ⌝ }
-{
-    let access = dictionary::writable(dictionary::lookup(image, index, sub), bytes.len());
-    match access {
-        Access::Denied(code) => abort(c, transaction, code),
-        Access::Granted(e) => {
-            dictionary::write(image, e, bytes);
-            acknowledge(next, transaction)
-        }
-    }
-}
-
-// An Expedited write.
-fn write_expedited(c: Connection, image: &mut [u8], transaction: u8, payload: &[u8]) -> Action
-    ensures { λ r. ⌜ ((share : List ℕ) (clock : ℕ) → toldAction r share (now (image .exit)) ≡ writeExpedited c share (now (image .entry)) clock transaction (now (payload .entry))) ⌝ }
-{
-    if payload.len() < 4 {
-        return abort(c, transaction, 0x05040001);
-    }
-    let index = octets::u16_at(payload, 0);
-    let sub = octets::byte_at(payload, 2);
-    write_object(
-        c,
-        c,
-        image,
-        transaction,
-        index,
-        sub,
-        octets::rest(payload, 4),
-    )
-}
-
-// The offset behind an Initiate's data.
-fn first_offset(n: usize) -> u32
-    ensures { λ r. ⌜ r ≡ min n OFFSET-MAX ⌝ }
-{
-    if n <= 4294967295 {
-        return (n % 4294967296) as u32;
-    }
-    4294967295
-}
-
-// A download that an Initiate begins: its first data is stored in the share.
-fn new_download(
-    image: &[u8],
-    clock: u64,
-    transaction: u8,
-    total: u32,
-    payload: &[u8],
-) -> SdoTransferState
-    ensures { λ r. ⌜ ((c : Connection) (share : List ℕ) → r ≡ newDownload c share (now (image .entry)) clock transaction total (now (payload .entry))) ⌝ }
-{
-    let n = octets::rest(payload, 4).len();
-    SdoTransferState {
-        transaction: transaction,
-        total: total,
-        offset: first_offset(n),
-        index: octets::u16_at(payload, 0),
-        sub: octets::byte_at(payload, 2),
-        deadline: Deadline::At(state::deadline_after(image, clock)),
-        retries: 0,
-        stored: false,
-    }
-}
-
-// An Initiate write.
-fn write_initiate(
-    c: Connection,
-    share: &mut [u8],
-    image: &[u8],
-    clock: u64,
-    transaction: u8,
-    total: u32,
-    payload: &[u8],
-) -> Action
-    ensures { λ r. ⌜ toldAction r (now (share .exit)) (now (image .entry)) ≡ writeInitiate c (now (share .entry)) (now (image .entry)) clock transaction total (now (payload .entry)) ⌝ }
-{
-    if payload.len() < 4 {
-        return abort(c, transaction, 0x05040001);
-    }
-    if total == 0 {
-        return abort(c, transaction, 0x06070010);
-    }
-    if 8192 < total {
-        return abort(c, transaction, 0x05040005);
-    }
-    octets::copy_at(share, 0, octets::rest(payload, 4));
-    let t = new_download(image, clock, transaction, total, payload);
-    acknowledge(
-        state::with_state(c, SdoServerState::SegmentedDownload(t)),
-        transaction,
-    )
-}
-
-// Whether data at an offset goes beyond the total.
-fn is_beyond(total: u32, offset: u32, n: usize) -> bool
-    ensures { λ r. ⌜ r ≡ ltb total (offset + n) ⌝ }
-{
-    if total < offset {
-        return true;
-    }
-    if ((total - offset) as usize) < n {
-        return true;
-    }
-    false
-}
-
-// Where data ends that does not go beyond the total.
-fn end_of(t: SdoTransferState, bytes: &[u8]) -> u32
-    requires { ⌜ t .offset + length (now bytes) ≤ t .total ⌝ }
-    ensures { λ r. ⌜ r ≡ t .offset + length (now (bytes .entry)) ⌝ }
-{
-    t.offset + ((bytes.len() % 4294967296) as u32)
-}
-
-// A Segment write: its data is stored after what is there.
-fn write_segment(
-    c: Connection,
-    share: &mut [u8],
-    image: &[u8],
-    clock: u64,
-    transaction: u8,
-    t: SdoTransferState,
-    bytes: &[u8],
-) -> Action
-    requires { ⌜ t .offset + length (now bytes) ≤ t .total ⌝ }
-    ensures { λ r. ⌜ toldAction r (now (share .exit)) (now (image .entry)) ≡ writeSegment c (now (share .entry)) (now (image .entry)) clock transaction t (now (bytes .entry)) ⌝ }
-{
-    octets::copy_at(share, t.offset as usize, bytes);
-    let deadline = Deadline::At(state::deadline_after(image, clock));
-    let next = SdoTransferState {
-        transaction: t.transaction,
-        total: t.total,
-        offset: end_of(t, bytes),
-        index: t.index,
-        sub: t.sub,
-        deadline: deadline,
-        retries: t.retries,
-        stored: t.stored,
-    };
-    acknowledge(
-        state::with_state(c, SdoServerState::SegmentedDownload(next)),
-        transaction,
-    )
-}
-
-// A Complete write: the object is written from the share.
-fn write_complete(
-    c: Connection,
-    share: &mut [u8],
-    image: &mut [u8],
-    transaction: u8,
-    t: SdoTransferState,
-    bytes: &[u8],
-) -> Action
-    requires { ⌜ t .offset + length (now bytes) ≤ t .total ⌝ }
-    ensures { λ r. ⌜ ((clock : ℕ) → toldAction r (now (share .exit)) (now (image .exit)) ≡ writeComplete c (now (share .entry)) (now (image .entry)) clock transaction t (now (bytes .entry))) ⌝ }
-{
-    if end_of(t, bytes) < t.total {
-        return abort(c, transaction, 0x06070013);
-    }
-    octets::copy_at(share, t.offset as usize, bytes);
-    let value = octets::part(share, 0, t.total as usize);
-    let next = state::with_state(c, SdoServerState::Established);
-    write_object(c, next, image, transaction, t.index, t.sub, value)
-}
-
-// Data of a running download.
-fn download_step(
-    c: Connection,
-    share: &mut [u8],
-    image: &mut [u8],
-    clock: u64,
-    transaction: u8,
-    complete: bool,
-    t: SdoTransferState,
-    bytes: &[u8],
-) -> Action
-    ensures { λ r. ⌜ toldAction r (now (share .exit)) (now (image .exit)) ≡ downloadStep c (now (share .entry)) (now (image .entry)) clock transaction complete t (now (bytes .entry)) ⌝ }
-{
-    if t.transaction == transaction {
-        if is_beyond(t.total, t.offset, bytes.len()) {
-            return abort(c, transaction, 0x06070010);
-        }
-        if complete {
-            return write_complete(c, share, image, transaction, t, bytes);
-        }
-        return write_segment(c, share, image, clock, transaction, t, bytes);
-    }
-    abort(c, transaction, 0x08000000)
-}
-
-// A Segment or a Complete write.
-fn write_data(
-    c: Connection,
-    share: &mut [u8],
-    image: &mut [u8],
-    clock: u64,
-    transaction: u8,
-    complete: bool,
-    bytes: &[u8],
-) -> Action
-    ensures { λ r. ⌜ toldAction r (now (share .exit)) (now (image .exit)) ≡ writeData c (now (share .entry)) (now (image .entry)) clock transaction complete (now (bytes .entry)) (c .state) ⌝ }
-{
-    let s = c.state;
-    match s {
-        SdoServerState::Closed => abort(c, transaction, 0x05040003),
-        SdoServerState::Opening => abort(c, transaction, 0x05040003),
-        SdoServerState::Established => abort(c, transaction, 0x05040003),
-        SdoServerState::SegmentedUpload(t) => abort(c, transaction, 0x05040003),
-        SdoServerState::SegmentedDownload(t) => {
-            download_step(c, share, image, clock, transaction, complete, t, bytes)
-        }
-    }
-}
-
-// WriteByIndex.
-pub fn write_by_index(
-    c: Connection,
-    share: &mut [u8],
-    image: &mut [u8],
-    clock: u64,
-    transaction: u8,
-    kind: Segmentation,
-    total: u32,
-    payload: &[u8],
-) -> Action
-    ensures { λ r. ⌜ toldAction r (now (share .exit)) (now (image .exit)) ≡ writeByIndex c (now (share .entry)) (now (image .entry)) clock transaction kind total (now (payload .entry)) ⌝ }
-{
-    match kind {
-        Segmentation::Expedited => write_expedited(c, image, transaction, payload),
-        Segmentation::Initiate => {
-            write_initiate(c, share, image, clock, transaction, total, payload)
-        }
-        Segmentation::Segment => { write_data(c, share, image, clock, transaction, false, payload) }
-        Segmentation::Complete => { write_data(c, share, image, clock, transaction, true, payload) }
     }
 }
 

@@ -44,7 +44,7 @@ pub fn check_lent(sound: bool, area: &[u8], image: &[u8], answer: &[u8], clock: 
     if lent_wrong(area, answer) {
         return Checked::Refused(Refusal::Lent);
     }
-    if !dictionary::sound_image(image) {
+    if !soundness::sound_image(image) {
         return Checked::Refused(Refusal::Image);
     }
     if !sound {

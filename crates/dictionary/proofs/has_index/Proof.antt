@@ -1,4 +1,4 @@
--- Its first two bytes are the index, within the image and past its end.
+-- Its first two bytes are the index.
 use Rattle.protocol.specs.DictionaryImage.{entryAt}
 use borrow.Author.Needs.{needs}
 use Rattle.dictionary.proofs.has_index.Statement.{statement}
@@ -8,9 +8,5 @@ returns : tie.Need-returns
 unfolding entryAt
 returns c = rw (c .u16-at .ensures)
 
-returns-2 : tie.Need-returns-2
-unfolding entryAt
-returns-2 c = rw (c .u16-in .ensures)
-
 pub has-index-spec : {M : Type 1} → statement M
-has-index-spec = tie.close (tie.spec (λ c. search needs) (λ c κs. search needs) returns (λ c κs. search needs) returns-2)
+has-index-spec = tie.close (tie.spec (λ c κs. search needs) returns)

@@ -25,17 +25,8 @@ mul-at c = let less = c .skip .ensures .1 (c .before .loop-test .taken) in omega
 add-at : tie.Need-add-at Inv-loop μ-loop
 add-at c = let less = c .skip .ensures .1 (c .before .loop-test .taken) in omega arith
 
-has-index-requires : tie.Need-has-index-requires Inv-loop μ-loop
-has-index-requires c κs = let less = c .skip .ensures .1 (c .before .loop-test .taken) in search needs
-
 has-sub-requires : tie.Need-has-sub-requires Inv-loop μ-loop
 has-sub-requires c κs = let s = c .before in let less = s .skip .ensures .1 (s .before .loop-test .taken) in search needs
-
-entry-near-requires : tie.Need-entry-near-requires Inv-loop μ-loop
-entry-near-requires c κs =
-    let s = c .before .before .before in
-    let less = s .skip .ensures .1 (s .before .loop-test .taken) in
-    search needs
 
 returns : tie.Need-returns Inv-loop μ-loop
 returns c =
@@ -46,7 +37,7 @@ returns c =
     let i = s .skip .result in
     let less = s .skip .ensures .1 (s .before .loop-test .taken) in
     let same = l .inv ∙ s .skip .ensures .2 (a .index) (a .sub) (l .seen) (omega arith) (omega arith) in
-    ap Found (c .entry-near .ensures) ∙ lookup-here (a .image .now) (a .n) i (entryAt (a .image .now) (2 + 12 * i)) less refl _ _ _ same (rw (h .has-index .ensures) at (flag (c .before .before .has-sub .ensures) (c .before .if1 .taken)))
+    ap Found (c .entry-at .ensures) ∙ lookup-here (a .image .now) (a .n) i (entryAt (a .image .now) (2 + 12 * i)) less refl _ _ _ same (rw (h .has-index .ensures) at (flag (c .before .before .has-sub .ensures) (c .before .if1 .taken)))
 
 returns-2 : tie.Need-returns-2 Inv-loop μ-loop
 returns-2 c =
@@ -95,9 +86,9 @@ lookup-from-spec =
     (λ c κs. search needs)
     mul-at
     add-at
-    has-index-requires
+    (λ c κs. search needs)
     has-sub-requires
-    entry-near-requires
+    (λ c κs. search needs)
     returns
     (λ c κs. search needs)
     returns-2
