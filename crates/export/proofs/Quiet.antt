@@ -14,7 +14,7 @@ use Rattle.protocol.specs.ConnectionTable.{fresh, isClosed, isDue, chosen, soun
 use Rattle.protocol.specs.Calls.{Called, accept, verdict}
 use Rattle.protocol.specs.Tick.{Told, nobody, tickTests, tickTold, ticked, onTickVerdict, tickOf}
 use Rattle.record.specs.Format.{tableBytes, tableOf}
-use Rattle.table.specs.Row.{isGone}
+use Rattle.connection.specs.Among.{isGone}
 use Rattle.table.proofs.Release.{release-none, gone-used}
 use Rattle.table.proofs.Sound.{sound-used-first}
 use Rattle.packed.specs.Packed.{isQuiet}

@@ -148,7 +148,7 @@ fn seat_of(t: &[u8; 320], client: SdoClientInfo, place: usize, free: usize) -> S
             own: own,
         };
     }
-    let own = table::joining(client, packed::area_at(t, free));
+    let own = connection::joining(client, packed::area_at(t, free));
     Seat {
         known: false,
         place: packed::seat_place(t, client),
@@ -172,7 +172,7 @@ fn settle(t: &mut [u8; 320], s: Seat, free: usize, next: Connection)
     ensures { λ _. ⌜ now (t .exit) ≡ tableBytes (settledIn s free next (tableOf (now (t .entry)))) ⌝ }
 {
     let state = next.state;
-    if table::is_closed(state) {
+    if connection::is_closed(state) {
         if s.known {
             packing::drop_at(t, s.place);
             return;
@@ -346,7 +346,7 @@ fn row_of(t: &[u8; 320]) -> [Connection; 8]
     if record::is_table(t) {
         return record::table_of(t);
     }
-    [record::fresh(0); 8]
+    [connection::fresh(0); 8]
 }
 
 // The table's bytes after a call on its row: refusals 1 to 7 leave them.

@@ -7,7 +7,7 @@ use Rattle.protocol.specs.declared.Deadline.{Deadline}
 use Rattle.protocol.specs.declared.Connection.{Connection}
 use Rattle.protocol.specs.ConnectionTable.{isDue}
 use Rattle.record.specs.Format.{deadlineOf, recordOf}
-use Rattle.table.specs.Row.{isGone}
+use Rattle.connection.specs.Among.{isGone}
 
 -- "Record, 40 bytes": the eight stand one behind the other
 abbrev pub bytesOf : ℕ → List ℕ → List ℕ

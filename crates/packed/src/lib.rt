@@ -11,7 +11,8 @@ ghost use Rattle.picks.specs.Pick.{every};
 ghost use Rattle.protocol.specs.declared.SdoClientInfo.the-variants.{Asnd};
 ghost use Rattle.protocol.specs.ConnectionTable.{before, sameClient, isFresh, fresh, holds, placeOf, soundState, soundRecord, transferDeadline, deadlineOf, earliest, ordered, areasOnce, soundTable};
 ghost use Rattle.record.specs.Format.{byteAt, numberAt, transferOf, isTable, tableOf};
-ghost use Rattle.table.specs.Row.{follows, isBehind, unusedPlace, seatPlace};
+ghost use Rattle.connection.specs.Among.{follows, isBehind};
+ghost use Rattle.table.specs.Row.{unusedPlace, seatPlace};
 ghost use Rattle.packed.specs.Packed.{bytesOf, at, dueTime, isQuiet};
 
 // A byte of the record at a place.
@@ -100,7 +101,7 @@ fn ascends_at(t: &[u8; 320], i: usize) -> bool
 {
     let a = client_at(t, i);
     let b = client_at(t, i + 1);
-    table::is_before(a, b)
+    connection::is_before(a, b)
 }
 
 // Whether the next record may stand behind the one at a place.
@@ -193,9 +194,9 @@ fn state_sound(t: &[u8; 320], i: usize) -> bool
     }
     let transfer = transfer_at(t, i);
     if state == 3 {
-        return table::sound_upload(transfer);
+        return connection::sound_upload(transfer);
     }
-    table::sound_download(transfer)
+    connection::sound_download(transfer)
 }
 
 // Sequence numbers at most 63, and a sound transfer.
@@ -246,7 +247,7 @@ fn held_at(t: &[u8; 320], i: usize, client: SdoClientInfo) -> bool
     ensures { λ r. ⌜ r ≡ holds client (at i (now (t .entry))) ⌝ }
 {
     if used_at(t, i) {
-        return table::same_client(client_at(t, i), client);
+        return connection::same_client(client_at(t, i), client);
     }
     false
 }
@@ -286,7 +287,7 @@ fn behind_at(t: &[u8; 320], i: usize, client: SdoClientInfo) -> bool
     ensures { λ r. ⌜ r ≡ isBehind client (at i (now (t .entry))) ⌝ }
 {
     if used_at(t, i) {
-        return !table::is_before(client_at(t, i), client);
+        return !connection::is_before(client_at(t, i), client);
     }
     true
 }
@@ -335,7 +336,7 @@ pub fn next_deadline(t: &[u8; 320]) -> Deadline
     let mut i = 0;
     while i < 8 {
         if used_at(t, i) {
-            d = table::earlier(d, transfer_time(t, i));
+            d = connection::earlier(d, transfer_time(t, i));
         }
         i += 1;
     }
@@ -347,7 +348,7 @@ fn quiet_at(t: &[u8; 320], i: usize, clock: u64) -> bool
     requires { ⌜ i < 8 ⌝ }
     ensures { λ r. ⌜ r ≡ isQuiet clock (at i (now (t .entry))) ⌝ }
 {
-    let due = table::is_past(deadline_at(t, i), clock);
+    let due = connection::is_past(deadline_at(t, i), clock);
     let gone = used_at(t, i) & (byte(t, i, 12) == 0);
     !due & !gone
 }
@@ -386,5 +387,5 @@ pub fn record_at(t: &[u8; 320], i: usize) -> Connection
         octets::copy_at(&mut b, 0, octets::part(t, 40 * i, 40));
         return record::record_of(&b);
     }
-    record::fresh(0)
+    connection::fresh(0)
 }

@@ -166,5 +166,5 @@ pub fn drop_at(t: &mut [u8; 320], i: usize)
     let area = t[40 * i + 9];
     tidy(t);
     shift(t, 40 * i + 40, 280 - 40 * i, 40 * i);
-    record::store_record(t, 7, record::fresh(area));
+    record::store_record(t, 7, connection::fresh(area));
 }

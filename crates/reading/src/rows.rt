@@ -12,7 +12,7 @@ fn is_own(r: Reading, client: SdoClientInfo) -> bool
     ensures { λ b. ⌜ b ≡ isOwn client r ⌝ }
 {
     let own = r.client;
-    r.running & table::same_client(own, client)
+    r.running & connection::same_client(own, client)
 }
 
 // Whether no reading runs at a place.

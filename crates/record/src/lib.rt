@@ -10,7 +10,7 @@ ghost use lib.ListN.{length, take, drop};
 ghost use lib.Dec.{eqb};
 ghost use Rattle.picks.specs.Pick.{pick};
 ghost use Rattle.octets.specs.Octets.{splice};
-ghost use Rattle.protocol.specs.ConnectionTable.{fresh, emptyTable};
+ghost use Rattle.protocol.specs.ConnectionTable.{emptyTable};
 ghost use Rattle.record.specs.Format.{byteAt, big, clientBytes, clientOf, isClient, stateNumber, deadlineFlag, deadlineTime, transferBytes, stateBytes, recordBytes, deadlineOf, transferOf, stateOf, recordOf, isRecord, tableBytes, tableOf, isTable};
 
 // The byte at a place as a number to reckon with.
@@ -336,32 +336,18 @@ pub fn put_table(out: &mut [u8], row: [Connection; 8])
     lay_table(out, row);
 }
 
-// A record of nobody, with the number of its share.
-pub fn fresh(area: u8) -> Connection
-    ensures { λ r. ⌜ r ≡ fresh area ⌝ }
-{
-    Connection {
-        used: false,
-        client: SdoClientInfo::Asnd { node: 0, mac: 0 },
-        area: area,
-        send: 0,
-        receive: 63,
-        state: SdoServerState::Closed,
-    }
-}
-
 // The empty table.
 pub fn empty_table() -> [Connection; 8]
     ensures { λ r. ⌜ r ≡ emptyTable ⌝ }
 {
     [
-        fresh(0),
-        fresh(1),
-        fresh(2),
-        fresh(3),
-        fresh(4),
-        fresh(5),
-        fresh(6),
-        fresh(7),
+        connection::fresh(0),
+        connection::fresh(1),
+        connection::fresh(2),
+        connection::fresh(3),
+        connection::fresh(4),
+        connection::fresh(5),
+        connection::fresh(6),
+        connection::fresh(7),
     ]
 }

@@ -18,7 +18,7 @@ use Rattle.protocol.specs.ConnectionRecord.{Reply, Served, serve}
 use Rattle.protocol.specs.ConnectionTable.{holds, update, release, isClosed, shareOf}
 use Rattle.protocol.specs.Calls.{Verdict, refuse, accept, verdict, To, Called, frame}
 use Rattle.protocol.specs.Tick.{Told, somebody, tickTests, tickAt}
-use Rattle.table.specs.Row.{isGone}
+use Rattle.connection.specs.Among.{isGone}
 
 -- a record served on its own part of an area, which may not hold it
 abbrev pub holdsShare : Connection → List ℕ → Bool

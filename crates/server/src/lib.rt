@@ -156,7 +156,7 @@ fn settled(row: [Connection; 8], client: SdoClientInfo, next: Connection) -> [Co
     let place = table::place_of(row, client);
     let t = table::replaced(row, place, next);
     let s = next.state;
-    if table::is_closed(s) {
+    if connection::is_closed(s) {
         return table::dropped(t, client);
     }
     t

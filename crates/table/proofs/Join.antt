@@ -12,7 +12,8 @@ use Rattle.picks.proofs.Keep.{by-test, both, every-cons, keep-yes, keep-no, kee
 use Rattle.protocol.specs.declared.SdoClientInfo.{SdoClientInfo}
 use Rattle.protocol.specs.declared.Connection.{Connection}
 use Rattle.protocol.specs.ConnectionTable.{before, fresh, isUsed, isUnused, usedOf, unusedOf, joining, insert, join}
-use Rattle.table.specs.Row.{usedFirst, isBehind, unusedPlace, seatPlace, putIn, joinedRow}
+use Rattle.connection.specs.Among.{isBehind}
+use Rattle.table.specs.Row.{usedFirst, unusedPlace, seatPlace, putIn, joinedRow}
 
 -- used records first, by the first record
 pub used-then : (r : Connection) (rs : List Connection) → r .used ≡ true → usedFirst (r ∷ rs) ≡ true → usedFirst rs ≡ true

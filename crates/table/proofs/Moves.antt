@@ -14,7 +14,8 @@ use Rattle.picks.proofs.Keep.{by-test, first-yes, first-no}
 use Rattle.protocol.specs.declared.SdoClientInfo.{SdoClientInfo}
 use Rattle.protocol.specs.declared.Connection.{Connection}
 use Rattle.protocol.specs.ConnectionTable.{before, fresh, isUnused, joining}
-use Rattle.table.specs.Row.{isBehind, unusedPlace, seatPlace, putIn, joinedRow}
+use Rattle.connection.specs.Among.{isBehind}
+use Rattle.table.specs.Row.{unusedPlace, seatPlace, putIn, joinedRow}
 use Rattle.table.proofs.Walk.{getD-any}
 
 -- the elements from a place up to another moved up by one, and one put where they stood

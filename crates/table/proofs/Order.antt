@@ -15,7 +15,8 @@ use Rattle.picks.proofs.Picks.{pick-t, pick-f}
 use Rattle.protocol.specs.declared.SdoClientInfo.the-variants.{Asnd}
 use Rattle.protocol.specs.declared.Connection.{Connection}
 use Rattle.protocol.specs.ConnectionTable.{sameClient, isUnused, isClosed, isFresh, ascends, ordered}
-use Rattle.table.specs.Row.{follows, usedFirst}
+use Rattle.connection.specs.Among.{follows}
+use Rattle.table.specs.Row.{usedFirst}
 
 fresh-unused : (r : Connection) → isFresh r ≡ true → isUnused r ≡ true
 fresh-unused r e =

@@ -15,7 +15,8 @@ use Rattle.protocol.specs.declared.SdoClientInfo.{SdoClientInfo}
 use Rattle.protocol.specs.declared.Connection.{Connection}
 use Rattle.protocol.specs.ConnectionTable.{fresh, isUsed, isUnused, usedOf, unusedOf, isClosed, holds, placeOf, release}
 use Rattle.protocol.proofs.ConnectionTable.{of-holds}
-use Rattle.table.specs.Row.{usedFirst, isGone, droppedAt, dropsFirst}
+use Rattle.connection.specs.Among.{isGone}
+use Rattle.table.specs.Row.{usedFirst, droppedAt, dropsFirst}
 use Rattle.table.proofs.Walk.{getD-any}
 use Rattle.table.proofs.Join.{used-then, unused-then}
 

@@ -12,7 +12,8 @@ use Rattle.protocol.specs.declared.SdoClientInfo.{SdoClientInfo}
 use Rattle.protocol.specs.declared.Connection.{Connection}
 use Rattle.protocol.specs.ConnectionTable.{fresh, unusedOf, isClosed, soundTable, holds, placeOf, isKnown, join, release}
 use Rattle.protocol.proofs.ConnectionTable.{of-sound, client-once}
-use Rattle.table.specs.Row.{usedFirst, isGone, joinedRow, droppedAt, dropsFirst}
+use Rattle.connection.specs.Among.{isGone}
+use Rattle.table.specs.Row.{usedFirst, joinedRow, droppedAt, dropsFirst}
 use Rattle.table.proofs.Order.{ordered-used-first}
 use Rattle.table.proofs.Join.{join-by-place}
 use Rattle.table.proofs.Release.{release-client, release-closed, set-used-first}

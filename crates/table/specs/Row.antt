@@ -1,34 +1,24 @@
 -- The moves of a row by places, as the code makes them, for a row of any shape; proofs/ says where they are `join` and `release`.
 use Prim.Native.Nat.{ℕ, zero, suc, _-_}
-use mathlib.Core.Bool.{Bool, true, _&&_, _||_, not}
+use mathlib.Core.Bool.{Bool, true}
 use mathlib.Core.List.{List, [], _∷_, _++_}
 use lib.ListN.{length, getD, take, drop}
 use lib.Dec.{ltb}
 use Rattle.picks.specs.Pick.{pick, first, every}
 use Rattle.protocol.specs.declared.SdoClientInfo.{SdoClientInfo}
 use Rattle.protocol.specs.declared.Connection.{Connection}
-use Rattle.protocol.specs.ConnectionTable.{before, fresh, isUnused, isClosed, isFresh, joining}
+use Rattle.protocol.specs.ConnectionTable.{fresh, isUnused, joining}
+use Rattle.connection.specs.Among.{isBehind}
 
 -- used records come first
 unfoldable pub usedFirst : List Connection → Bool
 usedFirst [] = true
 usedFirst (r ∷ rs) = pick (r .used) (usedFirst rs) (every isUnused rs)
 
--- a record may stand next behind another: `ordered` two by two
-abbrev pub follows : Connection → Connection → Bool
-follows x y = pick (x .used) (not (y .used) || before (x .client) (y .client)) (isFresh x && not (y .used))
-
--- a record that a tick drops
-abbrev pub isGone : Connection → Bool
-isGone r = r .used && isClosed (r .state)
-
--- where a client's record belongs: before the first that is unused, or whose client does not stand before it
-abbrev pub isBehind : SdoClientInfo → Connection → Bool
-isBehind c r = not (r .used && before (r .client) c)
-
 unfoldable pub unusedPlace : List Connection → ℕ
 unusedPlace t = first isUnused t
 
+-- where a client's record belongs: before the first that is unused, or whose client does not stand before it
 unfoldable pub seatPlace : SdoClientInfo → List Connection → ℕ
 seatPlace c t = first (isBehind c) t
 

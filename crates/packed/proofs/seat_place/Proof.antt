@@ -1,5 +1,6 @@
 -- A scan for the first such record.
-use Rattle.table.specs.Row.{isBehind, seatPlace}
+use Rattle.connection.specs.Among.{isBehind}
+use Rattle.table.specs.Row.{seatPlace}
 use Rattle.protocol.specs.ConnectionTable.{fresh}
 use Rattle.record.specs.Format.{tableOf}
 use Rattle.record.proofs.Ranges.{length-tableOf}

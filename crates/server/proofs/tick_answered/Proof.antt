@@ -6,7 +6,7 @@ use Rattle.protocol.specs.ConnectionTable.{soundTable, release}
 use borrow.Author.Tests.{le-ltb}
 use Rattle.picks.proofs.Picks.{pick-f}
 use mathlib.Core.Path.{refl, sym, ap, _∙_}
-use Rattle.table.specs.Row.{isGone}
+use Rattle.connection.specs.Among.{isGone}
 use borrow.Author.Needs.{needs}
 use Rattle.server.proofs.tick_answered.Statement.{statement}
 use Rattle.server.proofs.tick_answered.Tie as tie

@@ -1,7 +1,8 @@
 -- A loop that drops the first closed record; a sound row is then as `release` has it.
 use Rattle.table.proofs.Sound.{sound-closed}
 use Rattle.table.proofs.Release.{drops-turn, drops-end, drops-none, gone-used}
-use Rattle.table.specs.Row.{isGone, droppedAt, dropsFirst}
+use Rattle.connection.specs.Among.{isGone}
+use Rattle.table.specs.Row.{droppedAt, dropsFirst}
 use lib.ListN.{length}
 use mathlib.Core.Path.{_≡_, sym, ap, _∙_}
 use Prim.Native.Nat.{ℕ, _-_}

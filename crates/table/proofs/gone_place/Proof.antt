@@ -1,5 +1,5 @@
 -- A scan for the first record that is used and closed.
-use Rattle.table.specs.Row.{isGone}
+use Rattle.connection.specs.Among.{isGone}
 use Rattle.picks.proofs.Picks.{flag}
 use Rattle.picks.proofs.First.{first-more, first-here, first-none}
 use Rattle.picks.specs.Pick.{first}

@@ -1,5 +1,6 @@
 -- A scan for the first record that the client stands before.
-use Rattle.table.specs.Row.{isBehind, seatPlace}
+use Rattle.connection.specs.Among.{isBehind}
+use Rattle.table.specs.Row.{seatPlace}
 use Rattle.picks.proofs.Picks.{flag}
 use Rattle.picks.proofs.First.{first-more, first-here, first-none}
 use Rattle.picks.specs.Pick.{first}
