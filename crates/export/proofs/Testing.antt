@@ -19,7 +19,7 @@ use Rattle.table.proofs.Walk.{none-left}
 use Rattle.protocol.specs.Calls.{Test, Verdict, refuse, accept, verdict}
 use Rattle.protocol.specs.Request.{requestTests, onVerdict, requestOf}
 use Rattle.protocol.specs.Tick.{tickTests, onTickVerdict, tickOf}
-use Rattle.server.specs.Tests.{frameTests}
+use Rattle.refusals.specs.Tests.{frameTests}
 use Rattle.server.proofs.Laws.{andThen, tick-tests, request-tests}
 use Rattle.record.specs.Format.{tableOf, isTable}
 use Rattle.record.proofs.Ranges.{length-tableOf}

@@ -247,7 +247,7 @@ fn admitted(
     let place = packed::place_of(t, client);
     let free = packed::unused_place(t);
     let full = !(place < 8) & !(free < 8);
-    let checked = server::check_frame(request.len(), full);
+    let checked = refusals::check_frame(request.len(), full);
     match checked {
         Checked::Refused(x) => only(refusal_number(x)),
         Checked::Accepted => accepted(t, area, image, answer, client, place, free, clock, request),
@@ -268,7 +268,7 @@ fn handle_request(
 {
     let sound = record::is_client(who) & packed::is_sound(t);
     let client = record::client_in(who);
-    let checked = server::check_lent(sound, area, image, answer, clock);
+    let checked = refusals::check_lent(sound, area, image, answer, clock);
     match checked {
         Checked::Refused(x) => only(refusal_number(x)),
         Checked::Accepted => admitted(t, area, image, answer, client, clock, request),
@@ -329,7 +329,7 @@ fn quiet_tick<'a>(
     ensures { λ r. ⌜ left r (now (t .exit)) (now (area .entry)) (now (image .entry)) (now (answer .entry)) ≡ leftBy tickAnswer (now (t .entry)) (tickOf clock (now (image .entry)) (now (answer .entry)) (rowOf true (now (t .entry))) (now (area .entry))) ⌝ }
 {
     let sound = packed::is_sound(t);
-    let checked = server::check_lent(sound, area, image, answer, clock);
+    let checked = refusals::check_lent(sound, area, image, answer, clock);
     match checked {
         Checked::Refused(x) => only(refusal_number(x)),
         Checked::Accepted => {

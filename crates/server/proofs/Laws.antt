@@ -15,7 +15,7 @@ use Rattle.protocol.specs.Constants.{SHARE, RECORDS, ANSWER-MIN, AREA}
 use Rattle.protocol.specs.ConnectionTable.{soundTable, isKnown, unusedOf, shareOf, withShare}
 use Rattle.protocol.specs.Request.{requestTests}
 use Rattle.protocol.specs.Tick.{tickTests}
-use Rattle.server.specs.Tests.{lentTests, frameTests}
+use Rattle.refusals.specs.Tests.{lentTests, frameTests}
 use Rattle.protocol.specs.Calls.{Test, Verdict, refuse, accept, verdict}
 
 module _ (n k : ℕ) (area z : List ℕ) (whole : k ≡ SHARE) (long : length z ≡ k) (inside : SHARE * n + SHARE ≤ length area) where

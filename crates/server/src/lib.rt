@@ -14,63 +14,19 @@ use protocol::Ticked;
 use protocol::TickedRow;
 use protocol::Written;
 ghost use mathlib.Core.Path.{_≡_};
-ghost use mathlib.Core.Bool.{true, not, _||_};
+ghost use mathlib.Core.Bool.{true};
 ghost use Prim.Native.Nat.{_+_, _*_, _≤_};
 ghost use lib.ListN.{length, set};
-ghost use lib.Dec.{eqb, ltb};
 ghost use Rattle.picks.specs.Pick.{pick};
-ghost use Rattle.protocol.specs.Constants.{SHARE, AREA, ANSWER-MIN};
+ghost use Rattle.protocol.specs.Constants.{SHARE, ANSWER-MIN};
 ghost use Rattle.protocol.specs.Coding.{toldWritten};
 ghost use Rattle.protocol.specs.ConnectionRecord.{toldHandled, toldReply, serve};
 ghost use Rattle.protocol.specs.ConnectionTable.{soundTable, update, shareOf, withShare};
 ghost use Rattle.protocol.specs.Calls.{toldChecked, verdict, accept, addressed, answerWritten, answerLeft};
 ghost use Rattle.protocol.specs.Request.{toldOutcome, toldRequested, requestTests, accepted, requestOf};
 ghost use Rattle.protocol.specs.Tick.{toldTicked, toldTickedRow, tickTests, tickAt, tickOf};
-ghost use Rattle.server.specs.Tests.{lentTests, frameTests};
 ghost use Rattle.server.specs.Left.{holdsShare, servedOn, settledRow, answeredCall, toldTo, tickedCall, nextAction, tickAtOf};
 ghost use Rattle.protocol.specs.DeadlineQuery.{toldNextAction, queryOf};
-
-// Whether the answer buffer or the area has a length that no call takes.
-fn lent_wrong(area: &[u8], answer: &[u8]) -> bool
-    ensures { λ r. ⌜ r ≡ (ltb (length (now (answer .entry))) ANSWER-MIN || not (eqb (length (now (area .entry))) AREA)) ⌝ }
-{
-    (answer.len() < 1468) | !(area.len() == 65536)
-}
-
-// The tests of what is lent and of the clock, the table's soundness told: refusals 1 to 4, in order.
-pub fn check_lent(sound: bool, area: &[u8], image: &[u8], answer: &[u8], clock: u64) -> Checked
-    ensures { λ r. ⌜ toldChecked r ≡ verdict (lentTests sound clock (now (image .entry)) (now (answer .entry)) (now (area .entry))) ⌝ }
-{
-    if lent_wrong(area, answer) {
-        return Checked::Refused(Refusal::Lent);
-    }
-    if !soundness::sound_image(image) {
-        return Checked::Refused(Refusal::Image);
-    }
-    if !sound {
-        return Checked::Refused(Refusal::Table);
-    }
-    if 0x7FFFFFFFFFFFFFFF < clock {
-        return Checked::Refused(Refusal::Clock);
-    }
-    Checked::Accepted
-}
-
-// The tests of a request of n bytes, told whether the table is full for its client: refusals 5 to 7, in order.
-pub fn check_frame(n: usize, full: bool) -> Checked
-    ensures { λ r. ⌜ toldChecked r ≡ verdict (frameTests n full) ⌝ }
-{
-    if n < 4 {
-        return Checked::Refused(Refusal::Short);
-    }
-    if 1500 < n {
-        return Checked::Refused(Refusal::Long);
-    }
-    if full {
-        return Checked::Refused(Refusal::Full);
-    }
-    Checked::Accepted
-}
 
 // All tests of a request, in order.
 fn check_request(
@@ -85,10 +41,10 @@ fn check_request(
     ensures { λ r. ⌜ toldChecked r ≡ verdict (requestTests client clock (now (request .entry)) (now (image .entry)) (now (answer .entry)) t (now (area .entry))) ⌝ }
 {
     let sound = table::is_sound(t);
-    let lent = check_lent(sound, area, image, answer, clock);
+    let lent = refusals::check_lent(sound, area, image, answer, clock);
     match lent {
         Checked::Refused(x) => Checked::Refused(x),
-        Checked::Accepted => check_frame(request.len(), table::is_full(t, client)),
+        Checked::Accepted => refusals::check_frame(request.len(), table::is_full(t, client)),
     }
 }
 
@@ -301,7 +257,7 @@ pub fn tick_at<'a>(
     ensures { λ res. ⌜ toldTickedRow res (now (answer .exit)) (now (area .entry)) (now (image .entry)) ≡ tickAtOf place clock (now (image .entry)) (now (answer .entry)) t (now (area .entry)) ⌝ }
 {
     let sound = table::is_sound(t);
-    let checked = check_lent(sound, area, image, answer, clock);
+    let checked = refusals::check_lent(sound, area, image, answer, clock);
     match checked {
         Checked::Refused(x) => TickedRow {
             outcome: Ticked::Refused(x),

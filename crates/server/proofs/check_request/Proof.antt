@@ -1,5 +1,5 @@
 -- Four tests, then three.
-use Rattle.server.specs.Tests.{frameTests}
+use Rattle.refusals.specs.Tests.{frameTests}
 use Rattle.server.proofs.Laws.{andThen, request-tests}
 use Rattle.protocol.specs.ConnectionTable.{isKnown, unusedOf}
 use Rattle.protocol.specs.Calls.{toldChecked, verdict}
