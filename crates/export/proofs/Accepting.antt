@@ -28,11 +28,13 @@ use Rattle.protocol.proofs.StaysSound.{accepted-numbers}
 use Rattle.server.specs.Left.{holdsShare, servedOn}
 use Rattle.server.proofs.Calls.{share-inside, accepted-is, stored-is}
 use Rattle.record.specs.Format.{tableBytes, tableOf}
-use Rattle.export.specs.declared.SdoAnswer.{SdoAnswer}
-use Rattle.export.specs.declared.Seat.{Seat}
-use Rattle.export.specs.Exported.{only, answersTo, requestAnswer, tableLeft, left, leftBy}
-use Rattle.export.specs.Seats.{seatIn, backRow, settledIn, Admitted}
-use Rattle.export.proofs.Seats.{seat-own, seat-back, seat-dropped}
+use Rattle.outcomes.specs.declared.SdoAnswer.{SdoAnswer}
+use Rattle.seats.specs.declared.Seat.{Seat}
+use Rattle.outcomes.specs.Outcomes.{only, answersTo, requestAnswer, tableLeft}
+use Rattle.export.specs.Exported.{left, leftBy}
+use Rattle.seats.specs.Seats.{seatIn, backRow, settledIn}
+use Rattle.export.specs.Admitted.{Admitted}
+use Rattle.seats.proofs.Seats.{seat-own, seat-back, seat-dropped}
 
 -- what is left by equal parts
 same-left : {r r' : SdoAnswer} {t t' a a' b b' : List ℕ} (i : List ℕ) → r ≡ r' → t ≡ t' → a ≡ a' → b ≡ b' → left r t a i b ≡ left r' t' a' i b'

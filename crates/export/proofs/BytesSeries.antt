@@ -34,7 +34,8 @@ use Rattle.protocol.proofs.Series.{every-upload-spells}
 use Rattle.record.specs.Format.{clientOf, isClient, tableBytes}
 use Rattle.record.proofs.Writing.{length-table}
 use Rattle.record.proofs.RoundTrip.{table-back, table-is}
-use Rattle.export.specs.Exported.{only, answersTo, requestAnswer, tickAnswer, noTable, rowOf, tableLeft, Left, leftBy, requestBytes, tickBytes}
+use Rattle.outcomes.specs.Outcomes.{only, answersTo, requestAnswer, tickAnswer, noTable, rowOf, tableLeft}
+use Rattle.export.specs.Exported.{Left, leftBy, requestBytes, tickBytes}
 use Rattle.export.specs.BytesSeries.{Turn, requested, ticked, queried, Kept, startBytes, Contract, LentBytes, nextOf, Ran, sentAs, sentBy, sentAll}
 use Rattle.export.proofs.Accepting.{late-left}
 use Rattle.export.proofs.Refusals.{noTableNumber, request-no-table}

@@ -1,4 +1,3 @@
-pub mod Seats
 pub mod Accepting
 pub mod Testing
 pub mod Quiet

@@ -18,8 +18,9 @@ use Rattle.connection.specs.Among.{isGone}
 use Rattle.table.proofs.Release.{release-none, gone-used}
 use Rattle.table.proofs.Sound.{sound-used-first}
 use Rattle.packed.specs.Packed.{isQuiet}
-use Rattle.export.specs.declared.SdoAnswer.{SdoAnswer}
-use Rattle.export.specs.Exported.{only, tickAnswer, tableLeft, left, leftBy}
+use Rattle.outcomes.specs.declared.SdoAnswer.{SdoAnswer}
+use Rattle.outcomes.specs.Outcomes.{only, tickAnswer, tableLeft}
+use Rattle.export.specs.Exported.{left, leftBy}
 
 module _ (clock : ℕ) (image answer : List ℕ) (row : List Connection) (area : List ℕ) (sound : soundTable row ≡ true) (quiet : every (isQuiet clock) row ≡ true) where
   nobody-due : length row ≤ chosen row clock

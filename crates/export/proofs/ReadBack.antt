@@ -34,7 +34,8 @@ use Rattle.record.specs.Format.{big, clientBytes, clientOf, isClient, stateOf, 
 use Rattle.record.specs.Fits.{FitsClient, FitsState, FitsTable}
 use Rattle.record.proofs.RoundTrip.{table-back, table-is}
 use Rattle.record.proofs.Ranges.{client-fits, table-fits, length-tableOf}
-use Rattle.export.specs.Exported.{requestAnswer, tickAnswer, noTable, rowOf, tableLeft, Left, requestThrough, requestBytes, tickThrough, tickBytes}
+use Rattle.outcomes.specs.Outcomes.{requestAnswer, tickAnswer, noTable, rowOf, tableLeft}
+use Rattle.export.specs.Exported.{Left, requestThrough, requestBytes, tickThrough, tickBytes}
 use Rattle.export.proofs.Through.{client-number-back}
 use Rattle.export.proofs.Narrow.{NarrowState, serve-narrow, tick-narrow}
 

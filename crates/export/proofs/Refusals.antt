@@ -26,7 +26,8 @@ use Rattle.protocol.specs.DeadlineQuery.{queryTests, queryOf}
 use Rattle.protocol.proofs.Requests.{accepted-by}
 use Rattle.protocol.proofs.StaysSound.{accepted-numbers}
 use Rattle.record.specs.Format.{clientOf, isClient, isTable}
-use Rattle.export.specs.Exported.{only, requestAnswer, tickAnswer, queryAnswer, noTable, rowOf, tableLeft, Left, left, leftBy, requestBytes, tickBytes, queryBytes}
+use Rattle.outcomes.specs.Outcomes.{only, requestAnswer, tickAnswer, queryAnswer, noTable, rowOf, tableLeft}
+use Rattle.export.specs.Exported.{Left, left, leftBy, requestBytes, tickBytes, queryBytes}
 
 -- a table of another length than 320 is refused with 1, and all is left
 pub request-other-length : (client clock : ℕ) (request image answer table area : List ℕ) → eqb (length table) 320 ≡ false → left (only 1) table area image answer ≡ requestBytes client clock request image answer table area

@@ -23,8 +23,9 @@ use Rattle.refusals.specs.Tests.{frameTests}
 use Rattle.server.proofs.Laws.{andThen, tick-tests, request-tests}
 use Rattle.record.specs.Format.{tableOf, isTable}
 use Rattle.record.proofs.Ranges.{length-tableOf}
-use Rattle.export.specs.declared.SdoAnswer.{SdoAnswer}
-use Rattle.export.specs.Exported.{only, requestAnswer, tickAnswer, noTable, rowOf, tableLeft, left, leftBy}
+use Rattle.outcomes.specs.declared.SdoAnswer.{SdoAnswer}
+use Rattle.outcomes.specs.Outcomes.{only, requestAnswer, tickAnswer, noTable, rowOf, tableLeft}
+use Rattle.export.specs.Exported.{left, leftBy}
 use Rattle.export.proofs.Refusals.{no-table-unsound}
 
 -- a refusal that a list of tests gives is that of one of them

@@ -1,16 +1,13 @@
 -- A call through the records' bytes is the call on the records.
 use Prim.Native.Nat.{ℕ}
-use native.Mathlib.Omega.{arith}
 use mathlib.Core.Bool.{true, false, _&&_}
 use mathlib.Core.Path.{_≡_, sym, ap, _∙_}
 use mathlib.Core.List.{List, [], append-nil}
-use lib.ListN.{length, take, replicate}
-use lib.Seq.{take-all}
+use lib.ListN.{length, replicate}
 use borrow.Author.Tests.{eq-eqb}
 use Rattle.picks.proofs.Picks.{pick-t}
 use Rattle.octets.specs.Octets.{le, leBytes, splice, AllBytes}
 use Rattle.octets.proofs.Little.{length-leBytes, leBytes-le}
-use Rattle.protocol.specs.declared.SdoClientInfo.{SdoClientInfo}
 use Rattle.protocol.specs.declared.Connection.{Connection}
 use Rattle.protocol.specs.declared.TickedRow.{TickedRow}
 use Rattle.protocol.specs.declared.Deadline.{Deadline}
@@ -26,14 +23,12 @@ use Rattle.record.specs.Format.{clientBytes, clientOf, isClient, tableOf, isTab
 use Rattle.record.proofs.Writing.{length-client, splice-whole}
 use Rattle.record.proofs.RoundTrip.{client-back}
 use Rattle.record.proofs.Ranges.{client-fits, bytes-client, length-tableOf}
-use Rattle.export.specs.declared.SdoAnswer.{SdoAnswer}
-use Rattle.export.specs.Exported.{requestAnswer, tickAnswer, queryAnswer, rowOf, tableLeft, left, leftBy, requestBytes, tickBytes, queryBytes}
+use Rattle.outcomes.specs.declared.SdoAnswer.{SdoAnswer}
+use Rattle.outcomes.specs.Outcomes.{requestAnswer, tickAnswer, queryAnswer, rowOf, tableLeft}
+use Rattle.export.specs.Exported.{left, leftBy, requestBytes, tickBytes, queryBytes}
 use Rattle.export.proofs.Testing.{eight-row, sound-row, row-is}
 
--- a client's eight bytes as a number, and back
-pub client-whole : (k : SdoClientInfo) → le (take 8 (clientBytes k)) ≡ le (clientBytes k)
-client-whole k = ap le (take-all 8 (clientBytes k) (omega (arith, length-client k)))
-
+-- a client's number laid as its eight bytes
 pub client-laid : (client : ℕ) → splice 0 (leBytes 8 client) (replicate 8 0) ≡ leBytes 8 client
 client-laid client = splice-whole (leBytes 8 client) (replicate 8 0) (length-leBytes 8 client)
 

@@ -11,8 +11,8 @@ use Rattle.octets.specs.Octets.{AllBytes, leBytes}
 use Rattle.protocol.specs.ConnectionTable.{emptyTable}
 use Rattle.protocol.specs.Series.{heldBy, Sent}
 use Rattle.record.specs.Format.{clientOf, tableBytes}
-use Rattle.export.specs.declared.SdoAnswer.{SdoAnswer}
-use Rattle.export.specs.declared.SdoDeadline.{SdoDeadline}
+use Rattle.outcomes.specs.declared.SdoAnswer.{SdoAnswer}
+use Rattle.outcomes.specs.declared.SdoDeadline.{SdoDeadline}
 use Rattle.export.specs.Exported.{left, requestBytes, tickBytes, queryBytes}
 
 -- a call of `sdo_handle_request`, `sdo_tick` or `sdo_next_action_time`: what it was lent beside table and area, what it returned, and what it left of all that it could write to

@@ -1,3 +1,3 @@
 pub mod Exported
-pub mod Seats
 pub mod BytesSeries
+pub mod Admitted

@@ -1,187 +1,32 @@
 // The three calls of the server for C: numbers and lent bytes in and out, the table as the 320 bytes of its records.
+use outcomes::SdoAnswer;
+use outcomes::SdoDeadline;
 use protocol::Checked;
 use protocol::Connection;
 use protocol::Handled;
 use protocol::NextAction;
-use protocol::Outcome;
 use protocol::Refusal;
 use protocol::SdoClientInfo;
 use protocol::SdoResponseData;
-use protocol::Ticked;
+use seats::Seat;
 ghost use mathlib.Core.Path.{_≡_};
 ghost use mathlib.Core.Bool.{true};
 ghost use Prim.Native.Nat.{_≤_};
 ghost use lib.ListN.{length};
 ghost use Rattle.picks.specs.Pick.{every};
-ghost use Rattle.octets.specs.Octets.{le, splice};
+ghost use Rattle.octets.specs.Octets.{splice};
 ghost use Rattle.protocol.specs.Constants.{ANSWER-MIN};
-ghost use Rattle.protocol.specs.Coding.{refusalNumber};
 ghost use Rattle.protocol.specs.ConnectionRecord.{toldReply};
 ghost use Rattle.protocol.specs.ConnectionTable.{shareOf};
 ghost use Rattle.protocol.specs.Calls.{verdict, accept, frame};
-ghost use Rattle.protocol.specs.Request.{toldOutcome, accepted, requestOf};
-ghost use Rattle.protocol.specs.Tick.{toldTicked, tickTests, tickOf};
-ghost use Rattle.protocol.specs.DeadlineQuery.{toldNextAction};
-ghost use Rattle.record.specs.Format.{clientBytes, clientOf, isClient, tableBytes, tableOf};
+ghost use Rattle.protocol.specs.Request.{accepted, requestOf};
+ghost use Rattle.protocol.specs.Tick.{tickTests, tickOf};
+ghost use Rattle.record.specs.Format.{clientOf, isClient, tableBytes, tableOf};
 ghost use Rattle.packed.specs.Packed.{isQuiet};
-ghost use Rattle.export.specs.Exported.{only, answersTo, requestAnswer, tickAnswer, queryAnswer, rowOf, tableLeft, left, leftBy, requestBytes, tickBytes, queryBytes};
-ghost use Rattle.export.specs.Seats.{seatIn, backRow, settledIn, Admitted};
-
-// What a call answered: 0 and the answer's length and client, a refusal's number, or 255 where nobody is answered.
-#[repr(C)]
-pub struct SdoAnswer {
-    pub outcome: u64,
-    pub length: u64,
-    pub client: u64,
-}
-
-// What the deadline query answered: 254 and the deadline, a refusal's number, or 255 without a deadline.
-#[repr(C)]
-pub struct SdoDeadline {
-    pub outcome: u64,
-    pub at: u64,
-}
-
-// A client as a number: its bytes, the first the lowest.
-fn client_number(client: SdoClientInfo) -> u64
-    ensures { λ r. ⌜ r ≡ le (clientBytes client) ⌝ }
-{
-    octets::u64_at(&record::client_bytes(client), 0)
-}
-
-// The number of a refusal.
-fn refusal_number(r: Refusal) -> u64
-    ensures { λ n. ⌜ n ≡ refusalNumber r ⌝ }
-{
-    match r {
-        Refusal::Lent => 1,
-        Refusal::Image => 2,
-        Refusal::Table => 3,
-        Refusal::Clock => 4,
-        Refusal::Short => 5,
-        Refusal::Long => 6,
-        Refusal::Full => 7,
-        Refusal::Sequence => 8,
-        Refusal::EmptyCommand => 9,
-    }
-}
-
-// A number alone.
-fn only(outcome: u64) -> SdoAnswer
-    ensures { λ r. ⌜ r ≡ only outcome ⌝ }
-{
-    SdoAnswer {
-        outcome: outcome,
-        length: 0,
-        client: 0,
-    }
-}
-
-// An answer.
-fn answers(client: SdoClientInfo, n: usize) -> SdoAnswer
-    ensures { λ r. ⌜ r ≡ answersTo (record { client = client; size = n }) ⌝ }
-{
-    SdoAnswer {
-        outcome: 0,
-        length: n as u64,
-        client: client_number(client),
-    }
-}
-
-// What a request says, as numbers.
-fn of_request(o: Outcome) -> SdoAnswer
-    ensures { λ r. ⌜ r ≡ requestAnswer (toldOutcome o) ⌝ }
-{
-    match o {
-        Outcome::Refused(r) => only(refusal_number(r)),
-        Outcome::Answered(client, n) => answers(client, n),
-    }
-}
-
-// What a tick says, as numbers.
-fn of_tick(o: Ticked) -> SdoAnswer
-    ensures { λ r. ⌜ r ≡ tickAnswer (toldTicked o) ⌝ }
-{
-    match o {
-        Ticked::Refused(r) => only(refusal_number(r)),
-        Ticked::Nothing => only(255),
-        Ticked::Answered(client, n) => answers(client, n),
-    }
-}
-
-// What the deadline query says, as numbers.
-fn of_query(o: NextAction) -> SdoDeadline
-    ensures { λ r. ⌜ r ≡ queryAnswer (toldNextAction o) ⌝ }
-{
-    match o {
-        NextAction::Refused(r) => SdoDeadline {
-            outcome: refusal_number(r),
-            at: 0,
-        },
-        NextAction::Nothing => SdoDeadline {
-            outcome: 255,
-            at: 0,
-        },
-        NextAction::At(time) => SdoDeadline {
-            outcome: 254,
-            at: time,
-        },
-    }
-}
-
-// Where a client's record stands, or where it belongs if it has none, and the record.
-pub struct Seat {
-    pub known: bool,
-    pub place: usize,
-    pub own: Connection,
-}
-
-// The client's seat, told the place of its record and of the first unused one, 8 where there is none.
-fn seat_of(t: &[u8; 320], client: SdoClientInfo, place: usize, free: usize) -> Seat
-    ensures { λ r. ⌜ r ≡ seatIn client place free (tableOf (now (t .entry))) ⌝ }
-{
-    if place < 8 {
-        let own = packed::record_at(t, place);
-        return Seat {
-            known: true,
-            place: place,
-            own: own,
-        };
-    }
-    let own = connection::joining(client, packed::area_at(t, free));
-    Seat {
-        known: false,
-        place: packed::seat_place(t, client),
-        own: own,
-    }
-}
-
-// The record after a call goes to its seat.
-fn put_back(t: &mut [u8; 320], s: Seat, free: usize, next: Connection)
-    ensures { λ _. ⌜ now (t .exit) ≡ tableBytes (backRow s free next (tableOf (now (t .entry)))) ⌝ }
-{
-    if s.known {
-        packing::replace(t, s.place, next);
-        return;
-    }
-    packing::insert(t, s.place, free, next);
-}
-
-// The same after an answer: a record that is Closed is dropped. One that never stood in the table leaves its area number behind all others.
-fn settle(t: &mut [u8; 320], s: Seat, free: usize, next: Connection)
-    ensures { λ _. ⌜ now (t .exit) ≡ tableBytes (settledIn s free next (tableOf (now (t .entry)))) ⌝ }
-{
-    let state = next.state;
-    if connection::is_closed(state) {
-        if s.known {
-            packing::drop_at(t, s.place);
-            return;
-        }
-        packing::drop_at(t, free);
-        return;
-    }
-    put_back(t, s, free, next);
-}
+ghost use Rattle.outcomes.specs.Outcomes.{answersTo, requestAnswer, tickAnswer, rowOf};
+ghost use Rattle.export.specs.Exported.{left, leftBy, requestBytes, tickBytes, queryBytes};
+ghost use Rattle.seats.specs.Seats.{settledIn};
+ghost use Rattle.export.specs.Admitted.{Admitted};
 
 // An answered request: the answer's bytes, and the table after it.
 fn answered<'a>(
@@ -200,8 +45,8 @@ fn answered<'a>(
 {
     let own = s.own;
     let w = server::put_answer(r, area, own.area, image, answer);
-    settle(t, s, free, next);
-    of_request(server::addressed(client, w))
+    seats::settle(t, s, free, next);
+    outcomes::of_request(server::addressed(client, w))
 }
 
 // A request that passed the tests: the client's record is served and goes to its seat.
@@ -219,13 +64,13 @@ fn accepted(
     requires { ⌜ Admitted client place free clock (now request) (now image) (now answer) (tableOf (now t)) (now area) ⌝ }
     ensures { λ r. ⌜ left r (now (t .exit)) (now (area .exit)) (now (image .exit)) (now (answer .exit)) ≡ leftBy requestAnswer (now (t .entry)) (accepted client clock (now (request .entry)) (now (image .entry)) (now (answer .entry)) (tableOf (now (t .entry))) (now (area .entry))) ⌝ }
 {
-    let s = seat_of(t, client, place, free);
+    let s = seats::seat_of(t, client, place, free);
     let own = s.own;
     let handled = server::serve_record(own, area, image, clock, request);
     match handled {
         Handled::Refused(next, x) => {
-            put_back(t, s, free, next);
-            only(refusal_number(x))
+            seats::put_back(t, s, free, next);
+            outcomes::only(outcomes::refusal_number(x))
         }
         Handled::Answered(next, r) => answered(t, s, free, next, client, r, area, image, answer),
     }
@@ -249,7 +94,7 @@ fn admitted(
     let full = !(place < 8) & !(free < 8);
     let checked = refusals::check_frame(request.len(), full);
     match checked {
-        Checked::Refused(x) => only(refusal_number(x)),
+        Checked::Refused(x) => outcomes::only(outcomes::refusal_number(x)),
         Checked::Accepted => accepted(t, area, image, answer, client, place, free, clock, request),
     }
 }
@@ -270,7 +115,7 @@ fn handle_request(
     let client = record::client_in(who);
     let checked = refusals::check_lent(sound, area, image, answer, clock);
     match checked {
-        Checked::Refused(x) => only(refusal_number(x)),
+        Checked::Refused(x) => outcomes::only(outcomes::refusal_number(x)),
         Checked::Accepted => admitted(t, area, image, answer, client, clock, request),
     }
 }
@@ -307,7 +152,7 @@ pub extern "C" fn sdo_handle_request(
     ensures { λ r. ⌜ left r (now (table .exit)) (now (area .exit)) (now (image .exit)) (now (answer .exit)) ≡ requestBytes client clock (now (request .entry)) (now (image .entry)) (now (answer .entry)) (now (table .entry)) (now (area .entry)) ⌝ }
 {
     if table.len() != 320 {
-        return only(1);
+        return outcomes::only(1);
     }
     let mut who = [0; 8];
     octets::store_u64(&mut who, 0, client);
@@ -331,33 +176,12 @@ fn quiet_tick<'a>(
     let sound = packed::is_sound(t);
     let checked = refusals::check_lent(sound, area, image, answer, clock);
     match checked {
-        Checked::Refused(x) => only(refusal_number(x)),
+        Checked::Refused(x) => outcomes::only(outcomes::refusal_number(x)),
         Checked::Accepted => {
             packing::tidy(t);
-            only(255)
+            outcomes::only(255)
         }
     }
-}
-
-// The row that a table's bytes stand for: one that is not sound where they are none.
-fn row_of(t: &[u8; 320]) -> [Connection; 8]
-    ensures { λ r. ⌜ r ≡ rowOf true (now (t .entry)) ⌝ }
-{
-    if record::is_table(t) {
-        return record::table_of(t);
-    }
-    [connection::fresh(0); 8]
-}
-
-// The table's bytes after a call on its row: refusals 1 to 7 leave them.
-fn leave(t: &mut [u8; 320], row: [Connection; 8], outcome: u64)
-    ensures { λ _. ⌜ now (t .exit) ≡ tableLeft outcome row (now (t .entry)) ⌝ }
-{
-    let left = (0 < outcome) & (outcome < 8);
-    if left {
-        return;
-    }
-    record::put_table(t, row);
 }
 
 // A tick on the table's bytes.
@@ -373,11 +197,11 @@ fn tick<'a>(
     if packed::is_quiet(t, clock) {
         return quiet_tick(t, area, image, answer, clock);
     }
-    let done = server::tick(row_of(t), area, image, answer, clock);
+    let done = server::tick(outcomes::row_of(t), area, image, answer, clock);
     let outcome = done.outcome;
     let next = done.table;
-    let told = of_tick(outcome);
-    leave(t, next, told.outcome);
+    let told = outcomes::of_tick(outcome);
+    outcomes::leave(t, next, told.outcome);
     told
 }
 
@@ -393,7 +217,7 @@ pub extern "C" fn sdo_tick<'a>(
     ensures { λ r. ⌜ left r (now (table .exit)) (now (area .entry)) (now (image .entry)) (now (answer .exit)) ≡ tickBytes clock (now (image .entry)) (now (answer .entry)) (now (table .entry)) (now (area .entry)) ⌝ }
 {
     if table.len() != 320 {
-        return only(1);
+        return outcomes::only(1);
     }
     let mut t = lent_bytes(table);
     let told = tick(&mut t, area, image, answer, clock);
@@ -411,7 +235,7 @@ pub extern "C" fn sdo_next_action_time(table: &[u8]) -> SdoDeadline
     }
     let t = lent_bytes(table);
     if packed::is_sound(&t) {
-        return of_query(server::next_action(packed::next_deadline(&t)));
+        return outcomes::of_query(server::next_action(packed::next_deadline(&t)));
     }
-    of_query(NextAction::Refused(Refusal::Table))
+    outcomes::of_query(NextAction::Refused(Refusal::Table))
 }

@@ -3,7 +3,7 @@ use Rattle.export.proofs.Accepting.{refused-left, answered-left}
 use Rattle.protocol.proofs.Requests.{accepted-by}
 use Rattle.protocol.specs.ConnectionRecord.{toldHandled}
 use Rattle.protocol.specs.ConnectionTable.{shareOf}
-use Rattle.export.specs.Exported.{only}
+use Rattle.outcomes.specs.Outcomes.{only}
 use Rattle.record.specs.Format.{tableOf}
 use mathlib.Core.Path.{sym, ap, _∙_}
 use borrow.Author.Needs.{needs}

@@ -2,7 +2,8 @@
 use Rattle.export.proofs.Testing.{refused-early, frame-verdict, full-is}
 use Rattle.protocol.specs.Calls.{toldChecked}
 use Rattle.protocol.specs.Request.{onVerdict, requestOf}
-use Rattle.export.specs.Exported.{only, requestAnswer, leftBy}
+use Rattle.outcomes.specs.Outcomes.{only, requestAnswer}
+use Rattle.export.specs.Exported.{leftBy}
 use Rattle.record.specs.Format.{tableOf}
 use Rattle.record.proofs.Ranges.{length-tableOf}
 use mathlib.Core.Path.{sym, ap, _∙_}

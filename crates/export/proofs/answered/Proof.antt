@@ -1,7 +1,7 @@
 -- The buffer has room, so the answer is whole.
 use Rattle.picks.proofs.Picks.{pick-f}
 use Rattle.protocol.specs.Calls.{addressed}
-use Rattle.export.specs.Exported.{requestAnswer}
+use Rattle.outcomes.specs.Outcomes.{requestAnswer}
 use borrow.Author.Tests.{le-ltb}
 use mathlib.Core.Path.{refl, sym, ap, _∙_}
 use borrow.Author.Needs.{needs}

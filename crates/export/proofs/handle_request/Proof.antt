@@ -5,7 +5,8 @@ use Rattle.protocol.proofs.Ticks.{tick-accepted-by}
 use Rattle.protocol.specs.Calls.{toldChecked, verdict}
 use Rattle.protocol.specs.Request.{requestOf}
 use Rattle.protocol.specs.Tick.{tickTests}
-use Rattle.export.specs.Exported.{only, requestAnswer, rowOf, leftBy}
+use Rattle.outcomes.specs.Outcomes.{only, requestAnswer, rowOf}
+use Rattle.export.specs.Exported.{leftBy}
 use Rattle.record.specs.Format.{isClient, clientOf, tableOf}
 use mathlib.Core.Path.{sym, ap, _∙_}
 use borrow.Author.Needs.{needs}

@@ -4,7 +4,7 @@ use Rattle.export.proofs.Quiet.{quiet-left}
 use Rattle.server.proofs.Laws.{tick-tests}
 use Rattle.protocol.proofs.Ticks.{tick-accepted-by}
 use Rattle.protocol.specs.Calls.{toldChecked}
-use Rattle.export.specs.Exported.{only, rowOf}
+use Rattle.outcomes.specs.Outcomes.{only, rowOf}
 use mathlib.Core.Bool.{true}
 use mathlib.Core.Path.{sym, ap, _∙_}
 use borrow.Author.Needs.{needs}

@@ -1,11 +1,11 @@
 -- By what is answered.
-use Rattle.export.specs.Exported.{only, tickAnswer}
+use Rattle.outcomes.specs.Outcomes.{only, tickAnswer}
 use Rattle.protocol.specs.Tick.{toldTicked}
 use mathlib.Core.Path.{ap, _∙_}
 use Rattle.picks.proofs.Picks.{at-case}
 use borrow.Author.Needs.{needs}
-use Rattle.export.proofs.of_tick.Statement.{statement}
-use Rattle.export.proofs.of_tick.Tie as tie
+use Rattle.outcomes.proofs.of_tick.Statement.{statement}
+use Rattle.outcomes.proofs.of_tick.Tie as tie
 
 returns : tie.Need-returns
 returns c = at-case (λ o. tickAnswer (toldTicked o)) (c .before .before .before .o .given .1) (c .only .ensures ∙ ap only (c .before .refusal-number .ensures))

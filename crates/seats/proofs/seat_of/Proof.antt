@@ -2,8 +2,8 @@
 use Rattle.picks.proofs.Picks.{pick-t, pick-f}
 use borrow.Author.Tests.{lt-ltb, le-ltb}
 use borrow.Author.Needs.{needs}
-use Rattle.export.proofs.seat_of.Statement.{statement}
-use Rattle.export.proofs.seat_of.Tie as tie
+use Rattle.seats.proofs.seat_of.Statement.{statement}
+use Rattle.seats.proofs.seat_of.Tie as tie
 
 returns : tie.Need-returns
 returns c = pick-t _ _ _ _ (lt-ltb _ _ (c .before .if1 .taken)) (rw (c .record-at .ensures))

@@ -22,8 +22,8 @@ use Rattle.table.specs.Row.{unusedPlace, seatPlace, putIn, droppedAt}
 use Rattle.table.proofs.Moves.{seat-before, joined-made}
 use Rattle.table.proofs.Release.{dropped-in, dropped-made}
 use Rattle.table.proofs.Sound.{sound-join, sound-release}
-use Rattle.export.specs.declared.Seat.{Seat}
-use Rattle.export.specs.Seats.{seatIn, backRow}
+use Rattle.seats.specs.declared.Seat.{Seat}
+use Rattle.seats.specs.Seats.{seatIn, backRow}
 
 -- a record that was put in
 module _ (t : List Connection) (at n : ℕ) (c : Connection) (h : at ≤ n) (l : n < length t) where

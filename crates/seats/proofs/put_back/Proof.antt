@@ -3,8 +3,8 @@ use Rattle.picks.proofs.Picks.{pick-t, pick-f}
 use Rattle.record.specs.Format.{tableBytes}
 use mathlib.Core.Path.{refl, ap, _∙_}
 use borrow.Author.Needs.{needs}
-use Rattle.export.proofs.put_back.Statement.{statement}
-use Rattle.export.proofs.put_back.Tie as tie
+use Rattle.seats.proofs.put_back.Statement.{statement}
+use Rattle.seats.proofs.put_back.Tie as tie
 
 returns : tie.Need-returns
 returns c = c .replace .ensures ∙ ap tableBytes (pick-t _ _ _ _ (c .before .before .if1 .taken) refl)

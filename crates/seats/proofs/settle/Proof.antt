@@ -4,8 +4,8 @@ use Rattle.record.specs.Format.{tableBytes, tableOf}
 use Rattle.table.specs.Row.{droppedAt}
 use mathlib.Core.Path.{refl, ap, _∙_}
 use borrow.Author.Needs.{needs}
-use Rattle.export.proofs.settle.Statement.{statement}
-use Rattle.export.proofs.settle.Tie as tie
+use Rattle.seats.proofs.settle.Statement.{statement}
+use Rattle.seats.proofs.settle.Tie as tie
 
 returns : tie.Need-returns
 returns c =

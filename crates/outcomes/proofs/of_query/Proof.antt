@@ -1,11 +1,11 @@
 -- By what is answered.
-use Rattle.export.specs.Exported.{queryAnswer}
+use Rattle.outcomes.specs.Outcomes.{queryAnswer}
 use Rattle.protocol.specs.DeadlineQuery.{toldNextAction}
 use mathlib.Core.Path.{refl}
 use Rattle.picks.proofs.Picks.{at-case}
 use borrow.Author.Needs.{needs}
-use Rattle.export.proofs.of_query.Statement.{statement}
-use Rattle.export.proofs.of_query.Tie as tie
+use Rattle.outcomes.proofs.of_query.Statement.{statement}
+use Rattle.outcomes.proofs.of_query.Tie as tie
 
 returns : tie.Need-returns
 returns c = at-case (λ o. queryAnswer (toldNextAction o)) (c .before .before .o .given .1) (rw (c .refusal-number .ensures))

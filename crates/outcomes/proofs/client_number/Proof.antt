@@ -1,11 +1,11 @@
 -- The eight bytes are all of them.
-use Rattle.export.proofs.Through.{client-whole}
+use Rattle.outcomes.proofs.Client.{client-whole}
 use Rattle.octets.specs.Octets.{le}
 use lib.ListN.{take}
 use mathlib.Core.Path.{ap, _∙_}
 use borrow.Author.Needs.{needs}
-use Rattle.export.proofs.client_number.Statement.{statement}
-use Rattle.export.proofs.client_number.Tie as tie
+use Rattle.outcomes.proofs.client_number.Statement.{statement}
+use Rattle.outcomes.proofs.client_number.Tie as tie
 
 returns : tie.Need-returns
 returns c = c .u64-at .ensures ∙ ap (λ s. le (take 8 s)) (c .before .before .client-bytes .ensures) ∙ client-whole _

@@ -1,18 +1,15 @@
 -- Where a client's record stands or belongs, and the rows that a call leaves by it; a table of eight, in which a place past the end is 8.
 use Prim.Native.Nat.{ℕ}
 use mathlib.Core.Bool.{true, false, _&&_}
-use mathlib.Core.Path.{_≡_}
 use mathlib.Core.List.{List}
 use lib.ListN.{getD, set}
 use lib.Dec.{ltb, leb}
 use Rattle.picks.specs.Pick.{pick}
 use Rattle.protocol.specs.declared.SdoClientInfo.{SdoClientInfo}
 use Rattle.protocol.specs.declared.Connection.{Connection}
-use Rattle.protocol.specs.ConnectionTable.{fresh, joining, isClosed, placeOf}
-use Rattle.protocol.specs.Calls.{accept, verdict}
-use Rattle.protocol.specs.Request.{requestTests}
-use Rattle.table.specs.Row.{unusedPlace, seatPlace, putIn, droppedAt}
-use Rattle.export.specs.declared.Seat.{Seat}
+use Rattle.protocol.specs.ConnectionTable.{fresh, joining, isClosed}
+use Rattle.table.specs.Row.{seatPlace, putIn, droppedAt}
+use Rattle.seats.specs.declared.Seat.{Seat}
 
 -- its own record, or the one that it joins with
 abbrev pub seatIn : SdoClientInfo → ℕ → ℕ → List Connection → Seat
@@ -26,8 +23,3 @@ backRow s free next row =
 abbrev pub settledIn : Seat → ℕ → Connection → List Connection → List Connection
 settledIn s free next row =
     pick (isClosed (next .state)) (droppedAt (pick (s .known) (s .place) free) row) (backRow s free next row)
-
--- the request passed all tests, and the places are the client's and the first unused one's
-abbrev pub Admitted : SdoClientInfo → ℕ → ℕ → ℕ → List ℕ → List ℕ → List ℕ → List Connection → List ℕ → Type 0
-Admitted client place free clock request image answer row area =
-    (verdict (requestTests client clock request image answer row area) ≡ accept) × (place ≡ placeOf client row) × (free ≡ unusedPlace row)

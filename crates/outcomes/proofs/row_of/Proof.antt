@@ -1,9 +1,9 @@
 -- The table, or none.
-use Rattle.export.specs.Exported.{rowOf}
+use Rattle.outcomes.specs.Outcomes.{rowOf}
 use Rattle.picks.proofs.Picks.{flag, pick-t, pick-f}
 use borrow.Author.Needs.{needs}
-use Rattle.export.proofs.row_of.Statement.{statement}
-use Rattle.export.proofs.row_of.Tie as tie
+use Rattle.outcomes.proofs.row_of.Statement.{statement}
+use Rattle.outcomes.proofs.row_of.Tie as tie
 
 returns : tie.Need-returns
 unfolding rowOf

@@ -1,7 +1,7 @@
 -- The client's number is that of its bytes.
 use borrow.Author.Needs.{needs}
-use Rattle.export.proofs.answers.Statement.{statement}
-use Rattle.export.proofs.answers.Tie as tie
+use Rattle.outcomes.proofs.answers.Statement.{statement}
+use Rattle.outcomes.proofs.answers.Tie as tie
 
 returns : tie.Need-returns
 returns c = rw (c .client-number .ensures)

@@ -1,12 +1,12 @@
 -- Left by refusals 1 to 7, and else stored.
-use Rattle.export.specs.Exported.{tableLeft}
+use Rattle.outcomes.specs.Outcomes.{tableLeft}
 use lib.ListN.{length}
 use mathlib.Core.Path.{_≡_, refl, sym, _∙_}
 use borrow.Author.Tests.{eq-eqb}
 use Rattle.picks.proofs.Picks.{pick-t, pick-f}
 use borrow.Author.Needs.{needs}
-use Rattle.export.proofs.leave.Statement.{statement}
-use Rattle.export.proofs.leave.Tie as tie
+use Rattle.outcomes.proofs.leave.Statement.{statement}
+use Rattle.outcomes.proofs.leave.Tie as tie
 
 returns : tie.Need-returns
 unfolding tableLeft
