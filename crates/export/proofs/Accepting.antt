@@ -27,7 +27,7 @@ use Rattle.protocol.proofs.Requests.{Accepted, accepted-by, seat-of, served-kep
 use Rattle.protocol.proofs.StaysSound.{accepted-numbers}
 use Rattle.server.specs.Left.{holdsShare, servedOn}
 use Rattle.server.proofs.Calls.{share-inside, accepted-is, stored-is}
-use Rattle.record.specs.Format.{tableBytes, tableOf}
+use Rattle.format.specs.Format.{tableBytes, tableOf}
 use Rattle.outcomes.specs.declared.SdoAnswer.{SdoAnswer}
 use Rattle.seats.specs.declared.Seat.{Seat}
 use Rattle.outcomes.specs.Outcomes.{only, answersTo, requestAnswer, tableLeft}

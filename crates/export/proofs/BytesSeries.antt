@@ -31,9 +31,9 @@ use Rattle.protocol.proofs.ConnectionTable.{empty-sound}
 use Rattle.protocol.proofs.Requests.{accepted-by}
 use Rattle.protocol.proofs.StaysSound.{accepted-numbers}
 use Rattle.protocol.proofs.Series.{every-upload-spells}
-use Rattle.record.specs.Format.{clientOf, isClient, tableBytes}
-use Rattle.record.proofs.Writing.{length-table}
-use Rattle.record.proofs.RoundTrip.{table-back, table-is}
+use Rattle.format.specs.Format.{clientOf, isClient, tableBytes}
+use Rattle.format.proofs.Writing.{length-table}
+use Rattle.format.proofs.RoundTrip.{table-back, table-is}
 use Rattle.outcomes.specs.Outcomes.{only, answersTo, requestAnswer, tickAnswer, noTable, rowOf, tableLeft}
 use Rattle.export.specs.Exported.{Left, leftBy, requestBytes, tickBytes}
 use Rattle.export.specs.BytesSeries.{Turn, requested, ticked, queried, Kept, startBytes, Contract, LentBytes, nextOf, Ran, sentAs, sentBy, sentAll}

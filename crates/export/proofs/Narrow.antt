@@ -33,7 +33,7 @@ use Rattle.protocol.specs.ConnectionTable.{Ticking, idle, ticks, tickUpload, ti
 use Rattle.protocol.proofs.Command.{decode-inverts}
 use Rattle.protocol.proofs.DictionaryImage.{retries-below}
 use Rattle.protocol.proofs.Deadlines.{deadline-fits}
-use Rattle.record.specs.Fits.{FitsDeadline}
+use Rattle.format.specs.Fits.{FitsDeadline}
 
 abbrev pub NarrowTransfer : SdoTransferState → Type 0
 NarrowTransfer t = (t .index < 256 ^ 2) × FitsDeadline (t .deadline) × (t .retries < 256 ^ 4)

@@ -13,7 +13,7 @@ use Rattle.protocol.specs.Coding.{value}
 use Rattle.protocol.specs.ConnectionTable.{fresh, isClosed, isDue, chosen, soundTable, release, tickIn, tickRecord, shareOf}
 use Rattle.protocol.specs.Calls.{Called, accept, verdict}
 use Rattle.protocol.specs.Tick.{Told, nobody, tickTests, tickTold, ticked, onTickVerdict, tickOf}
-use Rattle.record.specs.Format.{tableBytes, tableOf}
+use Rattle.format.specs.Format.{tableBytes, tableOf}
 use Rattle.connection.specs.Among.{isGone}
 use Rattle.table.proofs.Release.{release-none, gone-used}
 use Rattle.table.proofs.Sound.{sound-used-first}

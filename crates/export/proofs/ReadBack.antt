@@ -30,10 +30,10 @@ use Rattle.protocol.proofs.RecordSound.{upload-sending}
 use Rattle.protocol.proofs.Requests.{Accepted, accepted-by, seat, own, ownShare, served, served-kept, stored, stored-long, laid}
 use Rattle.protocol.proofs.Ticks.{TickAccepted, tick-accepted-by, place, due, dueShare, due-there, due-kept}
 use Rattle.protocol.proofs.StaysSound.{request-keeps-sound, tick-keeps-sound}
-use Rattle.record.specs.Format.{big, clientBytes, clientOf, isClient, stateOf, recordOf, rows, isTable, tableOf, tableBytes}
-use Rattle.record.specs.Fits.{FitsClient, FitsState, FitsTable}
-use Rattle.record.proofs.RoundTrip.{table-back, table-is}
-use Rattle.record.proofs.Ranges.{client-fits, table-fits, length-tableOf}
+use Rattle.format.specs.Format.{big, clientBytes, clientOf, isClient, stateOf, recordOf, rows, isTable, tableOf, tableBytes}
+use Rattle.format.specs.Fits.{FitsClient, FitsState, FitsTable}
+use Rattle.format.proofs.RoundTrip.{table-back, table-is}
+use Rattle.format.proofs.Ranges.{client-fits, table-fits, length-tableOf}
 use Rattle.outcomes.specs.Outcomes.{requestAnswer, tickAnswer, noTable, rowOf, tableLeft}
 use Rattle.export.specs.Exported.{Left, requestThrough, requestBytes, tickThrough, tickBytes}
 use Rattle.export.proofs.Through.{client-number-back}

@@ -25,7 +25,7 @@ use Rattle.protocol.specs.ConnectionTable.{Ticking, idle, ticks}
 use Rattle.protocol.specs.DeadlineQuery.{queryTests, queryOf}
 use Rattle.protocol.proofs.Requests.{accepted-by}
 use Rattle.protocol.proofs.StaysSound.{accepted-numbers}
-use Rattle.record.specs.Format.{clientOf, isClient, isTable}
+use Rattle.format.specs.Format.{clientOf, isClient, isTable}
 use Rattle.outcomes.specs.Outcomes.{only, requestAnswer, tickAnswer, queryAnswer, noTable, rowOf, tableLeft}
 use Rattle.export.specs.Exported.{Left, left, leftBy, requestBytes, tickBytes, queryBytes}
 

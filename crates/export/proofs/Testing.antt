@@ -21,8 +21,8 @@ use Rattle.protocol.specs.Request.{requestTests, onVerdict, requestOf}
 use Rattle.protocol.specs.Tick.{tickTests, onTickVerdict, tickOf}
 use Rattle.refusals.specs.Tests.{frameTests}
 use Rattle.server.proofs.Laws.{andThen, tick-tests, request-tests}
-use Rattle.record.specs.Format.{tableOf, isTable}
-use Rattle.record.proofs.Ranges.{length-tableOf}
+use Rattle.format.specs.Format.{tableOf, isTable}
+use Rattle.format.proofs.Ranges.{length-tableOf}
 use Rattle.outcomes.specs.declared.SdoAnswer.{SdoAnswer}
 use Rattle.outcomes.specs.Outcomes.{only, requestAnswer, tickAnswer, noTable, rowOf, tableLeft}
 use Rattle.export.specs.Exported.{left, leftBy}

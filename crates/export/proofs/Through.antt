@@ -19,10 +19,10 @@ use Rattle.server.specs.Left.{nextAction}
 use Rattle.server.proofs.Calls.{query-sound, query-unsound}
 use Rattle.protocol.specs.Request.{requestOf}
 use Rattle.protocol.specs.Tick.{toldTicked, toldTickedRow, tickOf}
-use Rattle.record.specs.Format.{clientBytes, clientOf, isClient, tableOf, isTable}
-use Rattle.record.proofs.Writing.{length-client, splice-whole}
-use Rattle.record.proofs.RoundTrip.{client-back}
-use Rattle.record.proofs.Ranges.{client-fits, bytes-client, length-tableOf}
+use Rattle.format.specs.Format.{clientBytes, clientOf, isClient, tableOf, isTable}
+use Rattle.format.proofs.Writing.{length-client, splice-whole}
+use Rattle.format.proofs.RoundTrip.{client-back}
+use Rattle.format.proofs.Ranges.{client-fits, bytes-client, length-tableOf}
 use Rattle.outcomes.specs.declared.SdoAnswer.{SdoAnswer}
 use Rattle.outcomes.specs.Outcomes.{requestAnswer, tickAnswer, queryAnswer, rowOf, tableLeft}
 use Rattle.export.specs.Exported.{left, leftBy, requestBytes, tickBytes, queryBytes}

@@ -10,7 +10,7 @@ use Rattle.picks.specs.Pick.{pick}
 use Rattle.octets.specs.Octets.{AllBytes, leBytes}
 use Rattle.protocol.specs.ConnectionTable.{emptyTable}
 use Rattle.protocol.specs.Series.{heldBy, Sent}
-use Rattle.record.specs.Format.{clientOf, tableBytes}
+use Rattle.format.specs.Format.{clientOf, tableBytes}
 use Rattle.outcomes.specs.declared.SdoAnswer.{SdoAnswer}
 use Rattle.outcomes.specs.declared.SdoDeadline.{SdoDeadline}
 use Rattle.export.specs.Exported.{left, requestBytes, tickBytes, queryBytes}

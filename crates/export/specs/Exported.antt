@@ -11,7 +11,7 @@ use Rattle.protocol.specs.Calls.{To, Called}
 use Rattle.protocol.specs.Request.{requestOf}
 use Rattle.protocol.specs.Tick.{Told, tickOf}
 use Rattle.protocol.specs.DeadlineQuery.{queryOf}
-use Rattle.record.specs.Format.{clientOf, isClient}
+use Rattle.format.specs.Format.{clientOf, isClient}
 use Rattle.outcomes.specs.declared.SdoAnswer.{SdoAnswer}
 use Rattle.outcomes.specs.declared.SdoDeadline.{SdoDeadline}
 use Rattle.outcomes.specs.Outcomes.{only, requestAnswer, tickAnswer, queryAnswer, rowOf, tableLeft}

@@ -21,7 +21,7 @@ ghost use Rattle.protocol.specs.ConnectionTable.{shareOf};
 ghost use Rattle.protocol.specs.Calls.{verdict, accept, frame};
 ghost use Rattle.protocol.specs.Request.{accepted, requestOf};
 ghost use Rattle.protocol.specs.Tick.{tickTests, tickOf};
-ghost use Rattle.record.specs.Format.{clientOf, isClient, tableBytes, tableOf};
+ghost use Rattle.format.specs.Format.{clientOf, isClient, tableBytes, tableOf};
 ghost use Rattle.packed.specs.Packed.{isQuiet};
 ghost use Rattle.outcomes.specs.Outcomes.{answersTo, requestAnswer, tickAnswer, rowOf};
 ghost use Rattle.export.specs.Exported.{left, leftBy, requestBytes, tickBytes, queryBytes};
@@ -111,8 +111,8 @@ fn handle_request(
 ) -> SdoAnswer
     ensures { λ r. ⌜ left r (now (t .exit)) (now (area .exit)) (now (image .exit)) (now (answer .exit)) ≡ leftBy requestAnswer (now (t .entry)) (requestOf (clientOf (now (who .entry))) clock (now (request .entry)) (now (image .entry)) (now (answer .entry)) (rowOf (isClient (now (who .entry))) (now (t .entry))) (now (area .entry))) ⌝ }
 {
-    let sound = record::is_client(who) & packed::is_sound(t);
-    let client = record::client_in(who);
+    let sound = clients::is_client(who) & packed::is_sound(t);
+    let client = clients::client_in(who);
     let checked = refusals::check_lent(sound, area, image, answer, clock);
     match checked {
         Checked::Refused(x) => outcomes::only(outcomes::refusal_number(x)),

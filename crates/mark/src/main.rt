@@ -52,7 +52,7 @@ fn turn(
     let place = run.place;
     let sheet = run.sheet;
     let bytes = input::unplayed(input, place);
-    let n = script::length_of(bytes);
+    let n = items::length_of(bytes);
     if bytes.len() < n {
         return Run {
             place: input::refilled(input, place),
@@ -100,7 +100,7 @@ fn end(input: &[u8; INPUT], e: Exercise, run: Run) {
     if bytes.len() == 0 {
         return verdict::say_end(sheet, e, b"", 0);
     }
-    if bytes.len() < script::length_of(bytes) {
+    if bytes.len() < items::length_of(bytes) {
         return verdict::say_end(sheet, e, b"is cut short in the item at byte ", place.at);
     }
     verdict::say_end(

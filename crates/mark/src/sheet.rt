@@ -125,7 +125,7 @@ fn say_head(s: Sheet, item: &[u8]) {
     print::say(b"Call ");
     print::say_number(s.calls);
     print::say(b" at ");
-    print::say_clock(script::clock_of(item));
+    print::say_clock(items::clock_of(item));
     print::say(b", ");
 }
 
@@ -175,8 +175,8 @@ fn request_step(
     done: Played,
     answer: &[u8],
 ) -> Sheet {
-    let client = script::client_of(item);
-    let request = script::request_of(item);
+    let client = items::client_of(item);
+    let request = items::request_of(item);
     let told = done.told;
     let lent = done.lent;
     let after = lent.table;

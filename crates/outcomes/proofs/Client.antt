@@ -5,8 +5,8 @@ use lib.ListN.{take}
 use lib.Seq.{take-all}
 use Rattle.octets.specs.Octets.{le}
 use Rattle.protocol.specs.declared.SdoClientInfo.{SdoClientInfo}
-use Rattle.record.specs.Format.{clientBytes}
-use Rattle.record.proofs.Writing.{length-client}
+use Rattle.format.specs.Format.{clientBytes}
+use Rattle.format.proofs.Writing.{length-client}
 
 -- all eight are taken
 pub client-whole : (k : SdoClientInfo) → le (take 8 (clientBytes k)) ≡ le (clientBytes k)

@@ -13,7 +13,7 @@ use Rattle.protocol.specs.Coding.{Answer, refused, value}
 use Rattle.protocol.specs.ConnectionTable.{fresh}
 use Rattle.protocol.specs.Calls.{To}
 use Rattle.protocol.specs.Tick.{Told, nobody, somebody}
-use Rattle.record.specs.Format.{clientBytes, tableBytes, tableOf, isTable}
+use Rattle.format.specs.Format.{clientBytes, tableBytes, tableOf, isTable}
 use Rattle.outcomes.specs.declared.SdoAnswer.{SdoAnswer}
 use Rattle.outcomes.specs.declared.SdoDeadline.{SdoDeadline}
 

@@ -12,7 +12,7 @@ ghost use Rattle.protocol.specs.Coding.{refusalNumber};
 ghost use Rattle.protocol.specs.Request.{toldOutcome};
 ghost use Rattle.protocol.specs.Tick.{toldTicked};
 ghost use Rattle.protocol.specs.DeadlineQuery.{toldNextAction};
-ghost use Rattle.record.specs.Format.{clientBytes};
+ghost use Rattle.format.specs.Format.{clientBytes};
 ghost use Rattle.outcomes.specs.Outcomes.{only, answersTo, requestAnswer, tickAnswer, queryAnswer, rowOf, tableLeft};
 
 // What a call answered: 0 and the answer's length and client, a refusal's number, or 255 where nobody is answered.
@@ -34,7 +34,7 @@ pub struct SdoDeadline {
 fn client_number(client: SdoClientInfo) -> u64
     ensures { λ r. ⌜ r ≡ le (clientBytes client) ⌝ }
 {
-    octets::u64_at(&record::client_bytes(client), 0)
+    octets::u64_at(&clients::client_bytes(client), 0)
 }
 
 // The number of a refusal.

@@ -19,8 +19,8 @@ use Rattle.protocol.specs.declared.Deadline.the-variants.{NoDeadline, At}
 use Rattle.protocol.specs.declared.SdoServerState.{SdoServerState}
 use Rattle.protocol.specs.declared.SdoServerState.the-variants.{Closed, Opening, Established, SegmentedDownload, SegmentedUpload}
 use Rattle.protocol.specs.ConnectionTable.{sameClient, isClosed, soundUpload, soundDownload, soundState, transferDeadline, isPast, earlier}
-use Rattle.record.specs.Format.{byteAt, numberAt, big, clientOf, transferOf, stateOf}
-use Rattle.record.proofs.Reading.{number-more}
+use Rattle.format.specs.Format.{byteAt, numberAt, big, clientOf, transferOf, stateOf}
+use Rattle.format.proofs.Reading.{number-more}
 use Rattle.packed.specs.Packed.{dueTime}
 
 -- what is true of a state, by its number

@@ -6,7 +6,7 @@ use lib.ListN.{take, drop}
 use Rattle.protocol.specs.declared.Deadline.{Deadline}
 use Rattle.protocol.specs.declared.Connection.{Connection}
 use Rattle.protocol.specs.ConnectionTable.{isDue}
-use Rattle.record.specs.Format.{deadlineOf, recordOf}
+use Rattle.format.specs.Format.{deadlineOf, recordOf}
 use Rattle.connection.specs.Among.{isGone}
 
 -- "Record, 40 bytes": the eight stand one behind the other

@@ -10,7 +10,7 @@ ghost use lib.ListN.{getD};
 ghost use Rattle.picks.specs.Pick.{every};
 ghost use Rattle.protocol.specs.declared.SdoClientInfo.the-variants.{Asnd};
 ghost use Rattle.protocol.specs.ConnectionTable.{before, sameClient, isFresh, fresh, holds, placeOf, soundState, soundRecord, transferDeadline, deadlineOf, earliest, ordered, areasOnce, soundTable};
-ghost use Rattle.record.specs.Format.{byteAt, numberAt, transferOf, isTable, tableOf};
+ghost use Rattle.format.specs.Format.{byteAt, numberAt, transferOf, isTable, tableOf};
 ghost use Rattle.connection.specs.Among.{follows, isBehind};
 ghost use Rattle.table.specs.Row.{unusedPlace, seatPlace};
 ghost use Rattle.packed.specs.Packed.{bytesOf, at, dueTime, isQuiet};
@@ -60,7 +60,7 @@ fn client_at(t: &[u8; 320], i: usize) -> SdoClientInfo
     requires { ⌜ i < 8 ⌝ }
     ensures { λ r. ⌜ r ≡ at i (now (t .entry)) .client ⌝ }
 {
-    record::client_in(
+    clients::client_in(
         &[
             byte(t, i, 1),
             byte(t, i, 2),

@@ -15,9 +15,9 @@ use Rattle.octets.specs.Octets.{leBytes, AllBytes}
 use Rattle.octets.proofs.Bytes.{bytes-drop, bytes-take}
 use Rattle.octets.proofs.Little.{leBytes-le}
 use Rattle.protocol.specs.declared.Deadline.the-variants.{NoDeadline, At}
-use Rattle.record.specs.Format.{byteAt, numberAt, flag, big, bigBytes, clientBytes, clientOf, deadlineFlag, deadlineTime, transferBytes, transferOf, stateNumber, stateBytes, stateOf, recordBytes, recordOf, rows, tableBytes, tableOf}
-use Rattle.record.proofs.Reading.{state-is, byte-in}
-use Rattle.record.proofs.Places.{number-in}
+use Rattle.format.specs.Format.{byteAt, numberAt, flag, big, bigBytes, clientBytes, clientOf, deadlineFlag, deadlineTime, transferBytes, transferOf, stateNumber, stateBytes, stateOf, recordBytes, recordOf, rows, tableBytes, tableOf}
+use Rattle.format.proofs.Reading.{state-is, byte-in}
+use Rattle.format.proofs.Places.{number-in}
 use Rattle.packing.specs.Plain.{rowAt, RowIn, SameClient, NoTransfer, SameTransfer, SameState, SameRecord}
 
 -- a part of a list by its first byte, and by its first n

@@ -13,11 +13,11 @@ use Rattle.protocol.specs.ConnectionTable.{fresh}
 use Rattle.table.specs.Row.{putIn, droppedAt}
 use Rattle.table.proofs.Moves.{shift-in}
 use Rattle.table.proofs.Release.{dropped-made}
-use Rattle.record.specs.Format.{byteAt, recordBytes, recordOf, tableBytes, tableOf}
-use Rattle.record.proofs.Reading.{byte-in}
-use Rattle.record.proofs.Writing.{length-record, length-table}
-use Rattle.record.proofs.Ranges.{length-tableOf}
-use Rattle.record.proofs.Places.{record-at}
+use Rattle.format.specs.Format.{byteAt, recordBytes, recordOf, tableBytes, tableOf}
+use Rattle.format.proofs.Reading.{byte-in}
+use Rattle.format.proofs.Writing.{length-record, length-table}
+use Rattle.format.proofs.Ranges.{length-tableOf}
+use Rattle.format.proofs.Places.{record-at}
 
 -- a part that is laid at the start of other bytes and read there again
 pub moved : (from len : ℕ) (s z : List ℕ) → from + len ≤ length s → len ≤ length z → take len (drop 0 (splice 0 (take len (drop from s)) z)) ≡ take len (drop from s)

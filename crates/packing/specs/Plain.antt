@@ -4,7 +4,7 @@ use mathlib.Core.Path.{_≡_}
 use mathlib.Core.List.{List, [], _∷_, _++_}
 use lib.ListN.{length, take, drop, replicate}
 use Rattle.octets.specs.Octets.{AllBytes}
-use Rattle.record.specs.Format.{clientBytes, clientOf, transferBytes, transferOf, stateNumber, stateBytes, stateOf, recordBytes, recordOf}
+use Rattle.format.specs.Format.{clientBytes, clientOf, transferBytes, transferOf, stateNumber, stateBytes, stateOf, recordBytes, recordOf}
 
 -- the record's bytes at a place of the table's
 abbrev pub rowAt : ℕ → List ℕ → List ℕ

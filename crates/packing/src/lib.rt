@@ -8,7 +8,7 @@ ghost use lib.Dec.{ltb, leb};
 ghost use Rattle.picks.specs.Pick.{pick};
 ghost use Rattle.octets.specs.Octets.{AllBytes, splice};
 ghost use Rattle.table.specs.Row.{putIn, droppedAt};
-ghost use Rattle.record.specs.Format.{tableBytes, tableOf};
+ghost use Rattle.format.specs.Format.{tableBytes, tableOf};
 ghost use Rattle.packing.specs.Plain.{rowAt, RowIn, SameClient, NoTransfer, SameTransfer, SameState, SameRecord};
 
 // Whether the client of the record at a place has nothing but 0 where nobody looks.

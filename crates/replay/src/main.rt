@@ -89,7 +89,7 @@ fn turn(
     }
     let place = run.place;
     let bytes = input::unplayed(input, place);
-    let n = script::length_of(bytes);
+    let n = items::length_of(bytes);
     if bytes.len() < n {
         return Run {
             place: input::refilled(input, place),

@@ -67,7 +67,7 @@ fn put_answer(client: SdoClientInfo, answer: &[u8], out: &mut [u8]) -> usize
     requires { ⌜ length (now answer) ≤ 1600 ⌝ }
     ensures { λ r. ⌜ r ≤ 1611 ⌝ }
 {
-    octets::copy_at(out, 1, &record::client_bytes(client));
+    octets::copy_at(out, 1, &clients::client_bytes(client));
     octets::store_u16(out, 9, (answer.len() % 65536) as u16);
     octets::copy_at(out, 11, answer);
     11 + answer.len()

@@ -10,7 +10,7 @@ use lib.Seq.{append-snoc, drop-append-seam, drop-cons, take-suc, set-at, take-at
 use Rattle.octets.specs.Octets.{splice}
 use Rattle.octets.proofs.Splice.{take-clamped, splice-fits}
 use Rattle.script.specs.declared.Place.{Place}
-use Rattle.script.specs.Items.{areaBytes}
+use Rattle.items.specs.Items.{areaBytes}
 use Rattle.script.specs.Playing.{lentArea, blank}
 use Rattle.script.specs.Places.{unplayedOf, Read, refilledBytes, refilledPlace}
 

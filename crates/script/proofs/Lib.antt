@@ -1,4 +1,3 @@
-pub mod ByKind
 pub mod Buffers
 pub mod Through
 pub mod Runs

@@ -8,10 +8,10 @@ use mathlib.Core.List.{List, [], _∷_, _++_, append-assoc}
 use lib.ListN.{length, take, drop, length-append}
 use lib.Seq.{take-nil, take-at, drop-drop}
 use Rattle.picks.specs.Pick.{pick}
-use Rattle.record.specs.Format.{byteAt}
+use Rattle.format.specs.Format.{byteAt}
 use Rattle.script.specs.declared.Place.{Place}
 use Rattle.script.specs.declared.Played.{Played}
-use Rattle.script.specs.Items.{byKind, lengthOf}
+use Rattle.items.specs.Items.{byKind, lengthOf}
 use Rattle.script.specs.Places.{unplayedOf, behind, Read, refilledBytes, refilledPlace}
 
 -- a part without its first bytes

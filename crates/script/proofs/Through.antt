@@ -24,7 +24,7 @@ use Rattle.lent.proofs.OtherLength.{request-refused, tick-refused, query-refuse
 use Rattle.script.specs.declared.Lent.{Lent}
 use Rattle.script.specs.declared.Played.{Played}
 use Rattle.script.specs.declared.told.Told.{Told}
-use Rattle.script.specs.Items.{clientIn, clockIn, requestIn}
+use Rattle.items.specs.Items.{clientIn, clockIn, requestIn}
 use Rattle.script.specs.Outcomes.{only, requestSays, tickSays, querySays}
 use Rattle.script.specs.Playing.{left, calls, lentTable, tableLeft, leftBy, requestOn, tickOn, queryOn}
 use Rattle.script.proofs.Buffers.{drop-clamped}

@@ -1,4 +1,3 @@
-pub mod Items
 pub mod Outcomes
 pub mod Playing
 pub mod Places

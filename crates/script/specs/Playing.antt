@@ -12,11 +12,11 @@ use Rattle.protocol.specs.Calls.{Called}
 use Rattle.protocol.specs.Request.{requestOf}
 use Rattle.protocol.specs.Tick.{tickOf}
 use Rattle.protocol.specs.DeadlineQuery.{queryOf}
-use Rattle.record.specs.Format.{byteAt, numberAt, isClient, tableOf, isTable}
+use Rattle.format.specs.Format.{byteAt, numberAt, isClient, tableOf, isTable}
 use Rattle.script.specs.declared.Lent.{Lent}
 use Rattle.script.specs.declared.Played.{Played}
 use Rattle.script.specs.declared.told.Told.{Told}
-use Rattle.script.specs.Items.{byKind, clientIn, clockIn, requestIn, isImage, imageIn, areaBytes, areLengths}
+use Rattle.items.specs.Items.{byKind, clientIn, clockIn, requestIn, isImage, imageIn, areaBytes, areLengths}
 use Rattle.script.specs.Outcomes.{only, requestSays, tickSays, querySays}
 
 -- what an item leaves: what it says, and the three buffers

@@ -1,16 +1,12 @@
-// Scripts of calls, which are also the bench's recordings: oracle/REPLAY.md has the format. The items, what they lend, the calls on what is lent, and the input that they are read from.
+// Scripts of calls, which are also the bench's recordings: oracle/REPLAY.md has the format. What the items lend, the calls on what is lent, and the input that they are read from.
 pub mod input;
 pub mod told;
 
 use protocol::Connection;
-use protocol::SdoClientInfo;
 use told::Told;
 ghost use mathlib.Core.Path.{_≡_};
 ghost use Prim.Native.Nat.{_≤_, min};
 ghost use lib.ListN.{length};
-ghost use Rattle.picks.specs.Pick.{pick};
-ghost use Rattle.record.specs.Format.{numberAt};
-ghost use Rattle.script.specs.Items.{clientIn, clockIn, requestIn, isImage, lengthOf};
 ghost use Rattle.script.specs.Playing.{left, lends, unknown, calls, imageLent, imageStored, tableLent, filled, lengthsLent, lentArea, blank, requestOn, tickOn, queryOn, requestPlayed, playOf};
 ghost use Rattle.script.specs.Places.{atStart, behind};
 
@@ -58,59 +54,6 @@ pub struct Played {
     pub call: bool,
     pub told: Told,
     pub lent: Lent,
-}
-
-// The image's length in item 4. One above its limit counts as 0: no image is waited for, and the item is unknown.
-fn image_length(item: &[u8]) -> usize
-    ensures { λ r. ⌜ r ≡ pick (isImage (now (item .entry))) (numberAt 4 1 (now (item .entry))) 0 ⌝ }
-    ensures { λ r. ⌜ r ≤ 131072 ⌝ }
-{
-    let n = octets::u32_at(item, 1);
-    if n <= 131072 {
-        return n as usize;
-    }
-    0
-}
-
-// How long the item at the start of these bytes is. Where they end before the bytes that tell it, the answer is still more than they are.
-pub fn length_of(s: &[u8]) -> usize
-    ensures { λ r. ⌜ r ≡ lengthOf (now (s .entry)) ⌝ }
-{
-    let kind = octets::byte_at(s, 0);
-    match kind {
-        1 => 19 + (octets::u16_at(s, 17) as usize),
-        2 => 9,
-        3 => 1,
-        4 => 5 + image_length(s),
-        5 => 321,
-        6 => 2,
-        7 => 10,
-        _ => 1,
-    }
-}
-
-// The client of item 1.
-pub fn client_of(item: &[u8]) -> SdoClientInfo
-    ensures { λ r. ⌜ r ≡ clientIn (now (item .entry)) ⌝ }
-{
-    record::client_of(octets::rest(item, 1))
-}
-
-// The request of item 1.
-pub fn request_of(item: &[u8]) -> &[u8]
-    ensures { λ r. ⌜ now r ≡ requestIn (now (item .entry)) ⌝ }
-{
-    octets::part(item, 19, octets::u16_at(item, 17) as usize)
-}
-
-// The clock of item 1 or 2.
-pub fn clock_of(item: &[u8]) -> u64
-    ensures { λ r. ⌜ r ≡ clockIn (now (item .entry)) ⌝ }
-{
-    if octets::byte_at(item, 0) == 1 {
-        return octets::u64_at(item, 9);
-    }
-    octets::u64_at(item, 1)
 }
 
 // An item that lends something.
@@ -242,9 +185,9 @@ fn call_request(
     if lent.records != records_of(row) {
         return calls(told::only(1), lent, row);
     }
-    let client = client_of(item);
-    let clock = clock_of(item);
-    let request = request_of(item);
+    let client = items::client_of(item);
+    let clock = items::clock_of(item);
+    let request = items::request_of(item);
     let a = least(lent.area, area.len());
     let b = least(lent.image, image.len());
     let c = least(lent.answer, answer.len());
@@ -276,7 +219,7 @@ fn call_tick<'a>(
     if lent.records != records_of(row) {
         return calls(told::only(1), lent, row);
     }
-    let clock = clock_of(item);
+    let clock = items::clock_of(item);
     let c = least(lent.answer, answer.len());
     let done = owned::tick(
         row,
@@ -311,7 +254,7 @@ fn play_request(
 ) -> Played
     ensures { λ r. ⌜ left r (now (area .exit)) (now (image .exit)) (now (answer .exit)) ≡ requestPlayed (now (item .entry)) lent (now (area .entry)) (now (image .entry)) (now (answer .entry)) ⌝ }
 {
-    if record::is_client(octets::rest(item, 1)) {
+    if clients::is_client(octets::rest(item, 1)) {
         ready(area, answer);
         return call_request(item, lent, area, image, answer);
     }

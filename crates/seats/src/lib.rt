@@ -3,7 +3,7 @@ use protocol::Connection;
 use protocol::SdoClientInfo;
 ghost use mathlib.Core.Path.{_≡_};
 ghost use mathlib.Core.Bool.{true};
-ghost use Rattle.record.specs.Format.{tableBytes, tableOf};
+ghost use Rattle.format.specs.Format.{tableBytes, tableOf};
 ghost use Rattle.seats.specs.Seats.{seatIn, backRow, settledIn};
 
 // Where a client's record stands, or where it belongs if it has none, and the record.

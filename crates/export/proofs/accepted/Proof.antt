@@ -4,7 +4,7 @@ use Rattle.protocol.proofs.Requests.{accepted-by}
 use Rattle.protocol.specs.ConnectionRecord.{toldHandled}
 use Rattle.protocol.specs.ConnectionTable.{shareOf}
 use Rattle.outcomes.specs.Outcomes.{only}
-use Rattle.record.specs.Format.{tableOf}
+use Rattle.format.specs.Format.{tableOf}
 use mathlib.Core.Path.{sym, ap, _∙_}
 use borrow.Author.Needs.{needs}
 use Rattle.export.proofs.accepted.Statement.{statement}

@@ -4,8 +4,8 @@ use Rattle.protocol.specs.Calls.{toldChecked}
 use Rattle.protocol.specs.Request.{onVerdict, requestOf}
 use Rattle.outcomes.specs.Outcomes.{only, requestAnswer}
 use Rattle.export.specs.Exported.{leftBy}
-use Rattle.record.specs.Format.{tableOf}
-use Rattle.record.proofs.Ranges.{length-tableOf}
+use Rattle.format.specs.Format.{tableOf}
+use Rattle.format.proofs.Ranges.{length-tableOf}
 use mathlib.Core.Path.{sym, ap, _∙_}
 use borrow.Author.Needs.{needs}
 use Rattle.export.proofs.admitted.Statement.{statement}

@@ -7,7 +7,7 @@ use Rattle.protocol.specs.Request.{requestOf}
 use Rattle.protocol.specs.Tick.{tickTests}
 use Rattle.outcomes.specs.Outcomes.{only, requestAnswer, rowOf}
 use Rattle.export.specs.Exported.{leftBy}
-use Rattle.record.specs.Format.{isClient, clientOf, tableOf}
+use Rattle.format.specs.Format.{isClient, clientOf, tableOf}
 use mathlib.Core.Path.{sym, ap, _∙_}
 use borrow.Author.Needs.{needs}
 use Rattle.export.proofs.handle_request.Statement.{statement}

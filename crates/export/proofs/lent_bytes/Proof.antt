@@ -1,5 +1,5 @@
 -- A list laid over one of the same length.
-use Rattle.record.proofs.Writing.{splice-whole}
+use Rattle.format.proofs.Writing.{splice-whole}
 use lib.ListN.{replicate}
 use mathlib.Core.Path.{_∙_}
 use borrow.Author.Needs.{needs}

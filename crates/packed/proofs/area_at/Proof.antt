@@ -1,8 +1,8 @@
 -- By its byte.
-use Rattle.record.specs.Format.{recordOf}
+use Rattle.format.specs.Format.{recordOf}
 use Rattle.protocol.specs.declared.Connection.{Connection}
 use Rattle.protocol.specs.ConnectionTable.{fresh}
-use Rattle.record.proofs.Places.{record-at, record-past}
+use Rattle.format.proofs.Places.{record-at, record-past}
 use mathlib.Core.Path.{sym, ap, _∙_}
 use borrow.Author.Needs.{needs}
 use Rattle.packed.proofs.area_at.Statement.{statement}

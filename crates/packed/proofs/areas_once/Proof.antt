@@ -1,9 +1,9 @@
 -- A loop that checks each number with those seen so far.
 use Rattle.table.proofs.Areas.{unseen, mark, areas-pass}
 use Rattle.protocol.specs.ConnectionTable.{fresh, areasOnce}
-use Rattle.record.specs.Format.{recordOf, tableOf}
-use Rattle.record.proofs.Ranges.{length-tableOf}
-use Rattle.record.proofs.Places.{record-at}
+use Rattle.format.specs.Format.{recordOf, tableOf}
+use Rattle.format.proofs.Ranges.{length-tableOf}
+use Rattle.format.proofs.Places.{record-at}
 use Rattle.picks.proofs.Fold.{checks-more, checks-not, checks-end}
 use Rattle.picks.specs.Pick.{checks}
 use borrow.Author.Tests.{lt-ltb, le-ltb}

@@ -1,5 +1,5 @@
 -- The byte at the place within the table.
-use Rattle.record.proofs.Reading.{byte-in}
+use Rattle.format.proofs.Reading.{byte-in}
 use mathlib.Core.Path.{sym}
 use Prim.Native.Nat.{_*_}
 use borrow.Author.Needs.{needs}

@@ -1,6 +1,6 @@
 -- By its eight bytes.
-use Rattle.record.specs.Format.{recordOf}
-use Rattle.record.proofs.Reading.{client-spread}
+use Rattle.format.specs.Format.{recordOf}
+use Rattle.format.proofs.Reading.{client-spread}
 use Rattle.packed.specs.Packed.{bytesOf}
 use borrow.Author.Needs.{needs}
 use Rattle.packed.proofs.client_at.Statement.{statement}

@@ -1,5 +1,5 @@
 -- Byte by byte.
-use Rattle.record.specs.Format.{recordOf}
+use Rattle.format.specs.Format.{recordOf}
 use Rattle.packed.proofs.Bytes.{closed-is}
 use Rattle.packed.specs.Packed.{bytesOf}
 use borrow.Author.Needs.{needs}

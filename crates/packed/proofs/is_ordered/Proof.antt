@@ -1,8 +1,8 @@
 -- A loop that asks of every two neighbours, and of the last record.
 use Rattle.protocol.specs.ConnectionTable.{fresh, ordered}
-use Rattle.record.specs.Format.{tableOf}
-use Rattle.record.proofs.Ranges.{length-tableOf}
-use Rattle.record.proofs.Places.{record-at}
+use Rattle.format.specs.Format.{tableOf}
+use Rattle.format.proofs.Ranges.{length-tableOf}
+use Rattle.format.proofs.Places.{record-at}
 use Rattle.picks.proofs.Picks.{flag}
 use Rattle.table.proofs.Order.{order-more, order-not, order-end}
 use lib.ListN.{drop}

@@ -1,9 +1,9 @@
 -- A loop that asks of every record.
 use Rattle.packed.specs.Packed.{isQuiet}
 use Rattle.protocol.specs.ConnectionTable.{fresh}
-use Rattle.record.specs.Format.{tableOf}
-use Rattle.record.proofs.Ranges.{length-tableOf}
-use Rattle.record.proofs.Places.{record-at}
+use Rattle.format.specs.Format.{tableOf}
+use Rattle.format.proofs.Ranges.{length-tableOf}
+use Rattle.format.proofs.Places.{record-at}
 use Rattle.picks.proofs.Picks.{flag}
 use Rattle.table.proofs.Walk.{every-more, every-not, every-end}
 use Rattle.picks.specs.Pick.{every}

@@ -1,9 +1,9 @@
 -- A fold over the records, in which an unused one changes nothing.
 use Rattle.protocol.specs.ConnectionTable.{fresh, earlier, deadlineOf, earliest}
-use Rattle.record.specs.Format.{tableOf}
+use Rattle.format.specs.Format.{tableOf}
 use Rattle.packed.specs.Packed.{at}
-use Rattle.record.proofs.Ranges.{length-tableOf}
-use Rattle.record.proofs.Places.{record-at}
+use Rattle.format.proofs.Ranges.{length-tableOf}
+use Rattle.format.proofs.Places.{record-at}
 use Rattle.packed.proofs.Bytes.{earlier-none}
 use Rattle.picks.proofs.Picks.{flag, pick-t, pick-f}
 use Rattle.picks.proofs.Fold.{fold-more, fold-end}

@@ -1,5 +1,5 @@
 -- Eight bytes that are 0.
-use Rattle.record.specs.Format.{recordOf}
+use Rattle.format.specs.Format.{recordOf}
 use Rattle.packed.proofs.Bytes.{nobody-is}
 use Rattle.packed.specs.Packed.{bytesOf}
 use lib.ListN.{drop}

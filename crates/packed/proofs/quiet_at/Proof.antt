@@ -1,6 +1,6 @@
 -- Neither due nor closed.
 use Rattle.packed.specs.Packed.{at, bytesOf}
-use Rattle.record.specs.Format.{recordOf}
+use Rattle.format.specs.Format.{recordOf}
 use Rattle.protocol.specs.ConnectionTable.{transferDeadline}
 use Rattle.packed.proofs.Bytes.{past-used, closed-is}
 use borrow.Author.Needs.{needs}

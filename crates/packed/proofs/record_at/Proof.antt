@@ -1,9 +1,9 @@
 -- The copy is the part of 40 bytes.
-use Rattle.record.specs.Format.{recordOf}
+use Rattle.format.specs.Format.{recordOf}
 use Rattle.protocol.specs.ConnectionTable.{fresh}
 use Rattle.packed.specs.Packed.{bytesOf}
-use Rattle.record.proofs.Places.{record-at, record-past}
-use Rattle.record.proofs.Writing.{splice-whole}
+use Rattle.format.proofs.Places.{record-at, record-past}
+use Rattle.format.proofs.Writing.{splice-whole}
 use lib.Seq.{length-take-le}
 use lib.ListN.{length, drop, replicate, length-drop}
 use mathlib.Core.Path.{_≡_, sym, ap, _∙_}

@@ -1,8 +1,8 @@
 -- A loop that asks of every record up to the first unused one.
 use Rattle.protocol.specs.ConnectionTable.{fresh, isUsed, soundRecord}
-use Rattle.record.specs.Format.{tableOf}
-use Rattle.record.proofs.Ranges.{length-tableOf}
-use Rattle.record.proofs.Places.{record-at}
+use Rattle.format.specs.Format.{tableOf}
+use Rattle.format.proofs.Ranges.{length-tableOf}
+use Rattle.format.proofs.Places.{record-at}
 use Rattle.packed.proofs.Fresh.{unused-sound}
 use Rattle.picks.proofs.Picks.{flag}
 use Rattle.table.proofs.Walk.{every-more, every-not, every-end}

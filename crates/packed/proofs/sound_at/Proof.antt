@@ -1,5 +1,5 @@
 -- Both numbers and the transfer.
-use Rattle.record.specs.Format.{recordOf}
+use Rattle.format.specs.Format.{recordOf}
 use Rattle.protocol.specs.ConnectionTable.{soundRecord}
 use borrow.Author.Needs.{needs}
 use Rattle.packed.proofs.sound_at.Statement.{statement}

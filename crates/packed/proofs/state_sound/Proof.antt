@@ -1,5 +1,5 @@
 -- By its state.
-use Rattle.record.specs.Format.{recordOf}
+use Rattle.format.specs.Format.{recordOf}
 use Rattle.packed.proofs.Bytes.{sound-is}
 use Rattle.packed.specs.Packed.{bytesOf}
 use Rattle.protocol.specs.ConnectionTable.{soundUpload, soundDownload}

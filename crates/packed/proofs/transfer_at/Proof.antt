@@ -1,5 +1,5 @@
 -- Field by field.
-use Rattle.record.specs.Format.{transferOf}
+use Rattle.format.specs.Format.{transferOf}
 use borrow.Author.Needs.{needs}
 use Rattle.packed.proofs.transfer_at.Statement.{statement}
 use Rattle.packed.proofs.transfer_at.Tie as tie

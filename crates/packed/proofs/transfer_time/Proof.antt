@@ -1,5 +1,5 @@
 -- By its state.
-use Rattle.record.specs.Format.{recordOf}
+use Rattle.format.specs.Format.{recordOf}
 use Rattle.packed.proofs.Bytes.{time-is}
 use Rattle.packed.specs.Packed.{bytesOf}
 use mathlib.Core.Path.{refl, sym, ap, _∙_}

@@ -1,5 +1,5 @@
 -- By its first byte.
-use Rattle.record.specs.Format.{recordOf}
+use Rattle.format.specs.Format.{recordOf}
 use borrow.Author.Needs.{needs}
 use Rattle.packed.proofs.used_at.Statement.{statement}
 use Rattle.packed.proofs.used_at.Tie as tie

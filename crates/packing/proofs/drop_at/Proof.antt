@@ -1,8 +1,8 @@
 -- A place past the end, and the records moved down.
 use mathlib.Core.Path.{ap, sym, _∙_}
 use Rattle.table.proofs.Release.{dropped-out}
-use Rattle.record.specs.Format.{tableBytes, tableOf}
-use Rattle.record.proofs.Ranges.{length-tableOf}
+use Rattle.format.specs.Format.{tableBytes, tableOf}
+use Rattle.format.proofs.Ranges.{length-tableOf}
 use Rattle.packing.proofs.Rows.{dropped}
 use borrow.Author.Needs.{needs}
 use native.Mathlib.Omega.{arith}

@@ -3,8 +3,8 @@ use mathlib.Core.Path.{refl, ap, _∙_}
 use borrow.Author.Tests.{le-leb, lt-leb, lt-ltb, le-ltb}
 use Rattle.picks.proofs.Picks.{pick-t, pick-f}
 use Rattle.picks.proofs.Keep.{both}
-use Rattle.record.specs.Format.{tableBytes, tableOf}
-use Rattle.record.proofs.Ranges.{length-tableOf}
+use Rattle.format.specs.Format.{tableBytes, tableOf}
+use Rattle.format.proofs.Ranges.{length-tableOf}
 use Rattle.packing.proofs.Rows.{inserted}
 use borrow.Author.Needs.{needs}
 use native.Mathlib.Omega.{arith}

@@ -1,8 +1,8 @@
 -- A record past the end, and one in its place.
 use mathlib.Core.Path.{sym, ap, _∙_}
 use lib.Seq.{set-out}
-use Rattle.record.specs.Format.{tableBytes, tableOf}
-use Rattle.record.proofs.Ranges.{length-tableOf}
+use Rattle.format.specs.Format.{tableBytes, tableOf}
+use Rattle.format.proofs.Ranges.{length-tableOf}
 use Rattle.packing.proofs.Rows.{placed}
 use borrow.Author.Needs.{needs}
 use native.Mathlib.Omega.{arith}

@@ -3,7 +3,7 @@ use mathlib.Core.Path.{_≡_, sym, ap, _∙_}
 use lib.ListN.{length}
 use borrow.Author.Tests.{eq-eqb}
 use Rattle.picks.proofs.Picks.{pick-t}
-use Rattle.record.specs.Format.{tableBytes}
+use Rattle.format.specs.Format.{tableBytes}
 use borrow.Author.Needs.{needs}
 use Rattle.packing.proofs.tidy.Statement.{statement}
 use Rattle.packing.proofs.tidy.Tie as tie

@@ -1,5 +1,5 @@
 -- The bytes that are tested are those of the record at the place.
-use Rattle.record.proofs.Reading.{record-test, and-true}
+use Rattle.format.proofs.Reading.{record-test, and-true}
 use borrow.Author.Tests.{lt-ltb, le-ltb}
 use borrow.Author.Needs.{needs}
 use Rattle.record.proofs.is_record.Statement.{statement}

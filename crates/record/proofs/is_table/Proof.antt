@@ -1,7 +1,7 @@
 -- Another length, or eight tests.
 use borrow.Author.Tests.{ne-eqb}
-use Rattle.record.specs.Format.{isTable}
-use Rattle.record.proofs.Reading.{eight-tests}
+use Rattle.format.specs.Format.{isTable}
+use Rattle.format.proofs.Reading.{eight-tests}
 use borrow.Author.Needs.{needs}
 use Rattle.record.proofs.is_table.Statement.{statement}
 use Rattle.record.proofs.is_table.Tie as tie

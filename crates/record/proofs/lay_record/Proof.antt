@@ -1,6 +1,6 @@
 -- Five stores, one behind the other.
-use Rattle.record.specs.Format.{recordBytes}
-use Rattle.record.proofs.Writing.{length-client, length-state, length-record, record-laid}
+use Rattle.format.specs.Format.{recordBytes}
+use Rattle.format.proofs.Writing.{length-client, length-state, length-record, record-laid}
 use mathlib.Core.Path.{refl, sym, ap, _∙_}
 use lib.ListN.{length}
 use borrow.Author.Needs.{needs}

@@ -1,6 +1,6 @@
 -- After i turns the bytes of the first i records stand at the start.
-use Rattle.record.specs.Format.{tableBytes}
-use Rattle.record.proofs.Writing.{splice-whole, length-table, table-more}
+use Rattle.format.specs.Format.{tableBytes}
+use Rattle.format.proofs.Writing.{splice-whole, length-table, table-more}
 use Rattle.octets.proofs.Splice.{splice-none}
 use Rattle.octets.specs.Octets.{splice}
 use lib.Seq.{take-all}

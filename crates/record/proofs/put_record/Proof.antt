@@ -1,6 +1,6 @@
 -- The part that is lent on becomes the record's bytes.
-use Rattle.record.specs.Format.{recordBytes}
-use Rattle.record.proofs.Writing.{length-record}
+use Rattle.format.specs.Format.{recordBytes}
+use Rattle.format.proofs.Writing.{length-record}
 use Rattle.octets.proofs.Splice.{store-part}
 use mathlib.Core.Path.{_≡_}
 use Prim.Native.Nat.{_+_, _-_}

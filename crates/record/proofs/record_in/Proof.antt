@@ -1,6 +1,6 @@
 -- The copy is the part of 40 bytes.
-use Rattle.record.specs.Format.{recordOf}
-use Rattle.record.proofs.Writing.{splice-whole}
+use Rattle.format.specs.Format.{recordOf}
+use Rattle.format.proofs.Writing.{splice-whole}
 use lib.Seq.{length-take-le}
 use lib.ListN.{take, drop, replicate, length-drop}
 use mathlib.Core.Path.{_≡_, ap, _∙_}

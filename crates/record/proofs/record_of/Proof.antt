@@ -1,6 +1,6 @@
 -- Field by field.
-use Rattle.record.specs.Format.{recordOf}
-use Rattle.record.proofs.Reading.{client-spread}
+use Rattle.format.specs.Format.{recordOf}
+use Rattle.format.proofs.Reading.{client-spread}
 use borrow.Author.Needs.{needs}
 use Rattle.record.proofs.record_of.Statement.{statement}
 use Rattle.record.proofs.record_of.Tie as tie

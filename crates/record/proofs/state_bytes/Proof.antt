@@ -1,5 +1,5 @@
 -- By the state.
-use Rattle.record.specs.Format.{stateBytes}
+use Rattle.format.specs.Format.{stateBytes}
 use mathlib.Core.Path.{refl}
 use Rattle.picks.proofs.Picks.{at-case}
 use borrow.Author.Needs.{needs}

@@ -2,7 +2,7 @@
 use borrow.Author.Tests.{ne-eqb}
 use Rattle.protocol.specs.declared.SdoServerState.the-variants.{SegmentedUpload}
 use mathlib.Core.Path.{sym, ap, _∙_}
-use Rattle.record.proofs.Reading.{state-is}
+use Rattle.format.proofs.Reading.{state-is}
 use Rattle.picks.specs.Pick.{pick}
 use borrow.Author.Needs.{needs}
 use Rattle.record.proofs.state_of.Statement.{statement}

@@ -3,7 +3,7 @@ use mathlib.Core.Path.{_≡_, sym}
 use Prim.Native.Nat.{_*_}
 use lib.ListN.{length}
 use Rattle.octets.proofs.Splice.{splice-out}
-use Rattle.record.specs.Format.{recordBytes}
+use Rattle.format.specs.Format.{recordBytes}
 use borrow.Author.Needs.{needs}
 use native.Mathlib.Omega.{arith}
 use Rattle.record.proofs.store_record.Statement.{statement}

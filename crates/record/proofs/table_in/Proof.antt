@@ -1,5 +1,5 @@
 -- Eight records, each from its place.
-use Rattle.record.specs.Format.{rows, tableOf}
+use Rattle.format.specs.Format.{rows, tableOf}
 use borrow.Author.Needs.{needs}
 use Rattle.record.proofs.table_in.Statement.{statement}
 use Rattle.record.proofs.table_in.Tie as tie

@@ -1,6 +1,6 @@
 -- Padded with 0, the bytes read the same.
-use Rattle.record.specs.Format.{tableOf}
-use Rattle.record.proofs.Reading.{table-agrees, padded-agrees}
+use Rattle.format.specs.Format.{tableOf}
+use Rattle.format.proofs.Reading.{table-agrees, padded-agrees}
 use mathlib.Core.Path.{ap, _∙_}
 use borrow.Author.Needs.{needs}
 use Rattle.record.proofs.table_of.Statement.{statement}

@@ -1,5 +1,5 @@
 -- Stores, one behind the other.
-use Rattle.record.proofs.Writing.{transfer-laid}
+use Rattle.format.proofs.Writing.{transfer-laid}
 use borrow.Author.Needs.{needs}
 use Rattle.record.proofs.transfer_bytes.Statement.{statement}
 use Rattle.record.proofs.transfer_bytes.Tie as tie

@@ -1,5 +1,5 @@
 -- Field by field.
-use Rattle.record.specs.Format.{transferOf}
+use Rattle.format.specs.Format.{transferOf}
 use borrow.Author.Needs.{needs}
 use Rattle.record.proofs.transfer_of.Statement.{statement}
 use Rattle.record.proofs.transfer_of.Tie as tie

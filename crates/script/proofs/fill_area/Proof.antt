@@ -4,7 +4,7 @@ use Prim.Native.Nat.{_-_, _≤_, _<_}
 use native.Mathlib.Numerals.{add-one}
 use mathlib.Core.List.{_++_}
 use lib.ListN.{length, drop}
-use Rattle.script.specs.Items.{areaBytes}
+use Rattle.items.specs.Items.{areaBytes}
 use Rattle.script.specs.Playing.{filled}
 use Rattle.script.proofs.Buffers.{area-none, area-more}
 use borrow.Author.Needs.{needs}

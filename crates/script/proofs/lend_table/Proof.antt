@@ -1,7 +1,7 @@
 -- Where the bytes are a table.
 use mathlib.Core.Path.{ap, _∙_}
 use Rattle.picks.proofs.Picks.{pick-t, pick-f, flag}
-use Rattle.record.specs.Format.{isTable}
+use Rattle.format.specs.Format.{isTable}
 use Rattle.script.specs.Playing.{tableLent}
 use borrow.Author.Needs.{needs}
 use Rattle.script.proofs.lend_table.Statement.{statement}

@@ -1,6 +1,6 @@
 -- By the item's number.
 use Rattle.script.specs.Playing.{playOf}
-use Rattle.script.proofs.ByKind.{kind-1, kind-2, kind-3, kind-4, kind-5, kind-6, kind-7, kind-other}
+use Rattle.items.proofs.ByKind.{kind-1, kind-2, kind-3, kind-4, kind-5, kind-6, kind-7, kind-other}
 use borrow.Author.Needs.{needs}
 use Rattle.script.proofs.play.Statement.{statement}
 use Rattle.script.proofs.play.Tie as tie

@@ -1,7 +1,7 @@
 -- Where the client is one.
 use mathlib.Core.Path.{ap, _∙_}
 use Rattle.picks.proofs.Picks.{pick-t, pick-f, flag}
-use Rattle.record.specs.Format.{isClient}
+use Rattle.format.specs.Format.{isClient}
 use Rattle.script.specs.Playing.{requestPlayed}
 use borrow.Author.Needs.{needs}
 use Rattle.script.proofs.play_request.Statement.{statement}

@@ -1,6 +1,6 @@
 -- Replaced, or put in.
 use Rattle.picks.proofs.Picks.{pick-t, pick-f}
-use Rattle.record.specs.Format.{tableBytes}
+use Rattle.format.specs.Format.{tableBytes}
 use mathlib.Core.Path.{refl, ap, _∙_}
 use borrow.Author.Needs.{needs}
 use Rattle.seats.proofs.put_back.Statement.{statement}

@@ -1,6 +1,6 @@
 -- Dropped where it is Closed.
 use Rattle.picks.proofs.Picks.{flag, pick-t, pick-f}
-use Rattle.record.specs.Format.{tableBytes, tableOf}
+use Rattle.format.specs.Format.{tableBytes, tableOf}
 use Rattle.table.specs.Row.{droppedAt}
 use mathlib.Core.Path.{refl, ap, _∙_}
 use borrow.Author.Needs.{needs}
