@@ -8,17 +8,14 @@ use protocol::Connection;
 use protocol::DataSize;
 use protocol::SdoCommand;
 use protocol::SdoServerState;
-use protocol::SdoTransferState;
 use protocol::Segmentation;
 ghost use mathlib.Core.Path.{_≡_};
 ghost use mathlib.Core.List.{List, []};
-ghost use mathlib.Core.Bool.{_||_};
 ghost use Prim.Native.Nat.{ℕ};
-ghost use lib.Dec.{eqb};
 ghost use Rattle.protocol.specs.Constants.{INVALID-COMMAND};
-ghost use Rattle.protocol.specs.Command.{flagPlaces, idByte, totalNumber, withPayload, decodeCommand};
+ghost use Rattle.protocol.specs.Command.{flagPlaces, totalNumber, withPayload, decodeCommand};
 ghost use Rattle.protocol.specs.TransferRecord.{toldAction, aborts, writeByIndex};
-ghost use Rattle.protocol.specs.ConnectionRecord.{nil, dispatch, uploadCommand, commandIn, commandLayer, onDecoding};
+ghost use Rattle.protocol.specs.ConnectionRecord.{nil, dispatch, commandIn, commandLayer, onDecoding};
 
 // A Nil command with no payload.
 pub fn nil(response: bool, aborted: bool) -> SdoCommand
@@ -94,37 +91,6 @@ fn write_command(
     downloads::write_by_index(c, share, image, clock, h.transaction, kind, total, payload)
 }
 
-// Whether a command of an upload's transaction asks for the next piece.
-fn asks_next(id: CommandId, response: bool) -> bool
-    ensures { λ r. ⌜ r ≡ (eqb (idByte id) 0 || response) ⌝ }
-{
-    if command::id_byte(id) == 0 {
-        return true;
-    }
-    response
-}
-
-// A command that meets an upload.
-fn upload_command(
-    c: Connection,
-    image: &[u8],
-    clock: u64,
-    t: SdoTransferState,
-    m: SdoCommand,
-) -> Action
-    ensures { λ r. ⌜ ((share p : List ℕ) → toldAction r share (now (image .entry)) ≡ uploadCommand c share (now (image .entry)) clock t (withPayload m p)) ⌝ }
-{
-    let h = m.header;
-    let id = h.id;
-    if t.transaction == h.transaction {
-        if asks_next(id, h.response) {
-            return state::advance(c, image, clock, t);
-        }
-        return handlers::abort(c, h.transaction, 0x05040003);
-    }
-    handlers::abort(c, h.transaction, 0x08000000)
-}
-
 // A command by the record's state.
 fn command_in(
     c: Connection,
@@ -142,7 +108,7 @@ fn command_in(
         SdoServerState::Opening => dispatch(c, share, image, clock, m, payload),
         SdoServerState::Established => dispatch(c, share, image, clock, m, payload),
         SdoServerState::SegmentedDownload(t) => dispatch(c, share, image, clock, m, payload),
-        SdoServerState::SegmentedUpload(t) => upload_command(c, image, clock, t, m),
+        SdoServerState::SegmentedUpload(t) => uploads::upload_command(c, image, clock, t, m),
     }
 }
 

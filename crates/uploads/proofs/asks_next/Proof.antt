@@ -1,8 +1,8 @@
 -- Nil, or a response.
 use borrow.Author.Tests.{eq-eqb, ne-eqb}
 use borrow.Author.Needs.{needs}
-use Rattle.command_layer.proofs.asks_next.Statement.{statement}
-use Rattle.command_layer.proofs.asks_next.Tie as tie
+use Rattle.uploads.proofs.asks_next.Statement.{statement}
+use Rattle.uploads.proofs.asks_next.Tie as tie
 
 returns : tie.Need-returns
 returns c = rw (← c .before .id-byte .ensures, eq-eqb _ _ (c .if1 .taken))

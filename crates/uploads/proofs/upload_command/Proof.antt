@@ -3,8 +3,8 @@ use Rattle.picks.proofs.Picks.{flag, pick-t, pick-f}
 use Rattle.protocol.specs.ConnectionRecord.{uploadCommand}
 use borrow.Author.Tests.{eq-eqb, ne-eqb}
 use borrow.Author.Needs.{needs}
-use Rattle.command_layer.proofs.upload_command.Statement.{statement}
-use Rattle.command_layer.proofs.upload_command.Tie as tie
+use Rattle.uploads.proofs.upload_command.Statement.{statement}
+use Rattle.uploads.proofs.upload_command.Tie as tie
 
 returns : tie.Need-returns
 unfolding uploadCommand
