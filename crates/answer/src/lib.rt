@@ -22,7 +22,7 @@ fn put_command(m: SdoCommand, payload: &[u8], most: u16, buffer: &mut [u8]) -> u
     command::store(m, payload, buffer);
     let h = m.header;
     let kind = h.segmentation;
-    command::header_length(kind) + payload.len()
+    fields::header_length(kind) + payload.len()
 }
 
 // A command whose payload is a u32.

@@ -100,8 +100,8 @@ fn fields(c: SdoCommand, payload: &[u8], came: &mut [u8]) -> usize {
     let id = h.id;
     let flags = [h.transaction, h.response as u8, h.aborted as u8];
     let codes = [
-        command::segmentation_number(segmentation),
-        command::id_byte(id),
+        fields::segmentation_number(segmentation),
+        fields::id_byte(id),
     ];
     octets::copy_at(came, 0, &flags);
     octets::copy_at(came, 3, &codes);
@@ -116,7 +116,7 @@ fn command_read_row(s: Score, what: &[u8], given: &[u8], expected: &[u8]) -> Sco
     let mut space = [0u8; 32];
     let n = rows::read(given, &mut space);
     let bytes = octets::part(&space, 0, n);
-    let id = command::undecodable_transaction(bytes);
+    let id = fields::undecodable_transaction(bytes);
     let read = command::deserialize(bytes);
     match read {
         CommandRead::Command(c) => {
@@ -135,9 +135,9 @@ fn command_read_row(s: Score, what: &[u8], given: &[u8], expected: &[u8]) -> Sco
 fn id_row(s: Score, what: &[u8], given: &[u8], expected: &[u8]) -> Score {
     let mut b = [0u8; 1];
     rows::read(given, &mut b);
-    let read = command::command_id(b[0]);
+    let read = fields::command_id(b[0]);
     match read {
-        IdRead::Id(id) => rows::row(s, what, b"", &[command::id_byte(id)], expected),
+        IdRead::Id(id) => rows::row(s, what, b"", &[fields::id_byte(id)], expected),
         IdRead::InvalidEnumValue => rows::row(s, what, b"", &[0xFF], expected),
     }
 }

@@ -167,8 +167,8 @@ fn command_decoded(c: SdoCommand, bytes: &[u8], out: &mut [u8]) -> usize
         h.transaction,
         h.response as u8,
         h.aborted as u8,
-        command::segmentation_number(segmentation),
-        command::id_byte(id),
+        fields::segmentation_number(segmentation),
+        fields::id_byte(id),
     ];
     octets::copy_at(out, 0, &fields);
     octets::store_u16(out, 6, h.size);
@@ -185,7 +185,7 @@ fn command_decode(item: &[u8], out: &mut [u8]) -> usize
         return 0;
     }
     let bytes = octets::part(item, 3, n as usize);
-    let transaction = command::undecodable_transaction(bytes);
+    let transaction = fields::undecodable_transaction(bytes);
     let read = command::deserialize(bytes);
     match read {
         CommandRead::Command(c) => command_decoded(c, bytes, out),
@@ -208,7 +208,7 @@ fn command_of(id: CommandId, item: &[u8]) -> SdoCommand {
         transaction: octets::byte_at(item, 1),
         response: octets::byte_at(item, 2) == 1,
         aborted: octets::byte_at(item, 3) == 1,
-        segmentation: command::segmentation(octets::byte_at(item, 4)),
+        segmentation: fields::segmentation(octets::byte_at(item, 4)),
         id: id,
         size: octets::u16_at(item, 6),
     };
@@ -240,7 +240,7 @@ fn command_encoded(c: SdoCommand, payload: &[u8], n: usize, out: &mut [u8]) -> u
 fn command_encode(item: &[u8], out: &mut [u8]) -> usize
     ensures { λ r. ⌜ r ≤ 4111 ⌝ }
 {
-    let id = command::command_id(octets::byte_at(item, 5));
+    let id = fields::command_id(octets::byte_at(item, 5));
     let IdRead::Id(i) = id else {
         return 0;
     };

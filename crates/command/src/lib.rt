@@ -11,86 +11,7 @@ ghost use mathlib.Core.Path.{_≡_};
 ghost use Prim.Native.Nat.{_+_, _*_, _%_, _<_};
 ghost use Rattle.octets.specs.Octets.{splice};
 ghost use Rattle.protocol.specs.Coding.{put, written, toldWritten};
-ghost use Rattle.protocol.specs.Command.{flagPlaces, flagsByte, segmentationNumber, segmentationOf, idByte, idOf, bit, headerLength, totalNumber, totalBytes, totalOf, fixedHeader, headerOf, payloadOf, withPayload, encodeCommand, decodeWith, decodeCommand, toldCommand, undecodableTransaction};
-
-// The segmentation of a number from 0 to 3.
-pub fn segmentation(value: u8) -> Segmentation
-    ensures { λ r. ⌜ r ≡ segmentationOf value ⌝ }
-{
-    match value {
-        0 => Segmentation::Expedited,
-        1 => Segmentation::Initiate,
-        2 => Segmentation::Segment,
-        _ => Segmentation::Complete,
-    }
-}
-
-// The number of a segmentation.
-pub fn segmentation_number(s: Segmentation) -> u8
-    ensures { λ r. ⌜ r ≡ segmentationNumber s ⌝ }
-{
-    match s {
-        Segmentation::Expedited => 0,
-        Segmentation::Initiate => 1,
-        Segmentation::Segment => 2,
-        Segmentation::Complete => 3,
-    }
-}
-
-// The id of a byte.
-pub fn command_id(value: u8) -> IdRead
-    ensures { λ r. ⌜ r ≡ idOf value ⌝ }
-{
-    match value {
-        0x00 => IdRead::Id(CommandId::Nil),
-        0x01 => IdRead::Id(CommandId::WriteByIndex),
-        0x02 => IdRead::Id(CommandId::ReadByIndex),
-        0x03 => IdRead::Id(CommandId::WriteAllByIndex),
-        0x04 => IdRead::Id(CommandId::ReadAllByIndex),
-        0x05 => IdRead::Id(CommandId::WriteByName),
-        0x06 => IdRead::Id(CommandId::ReadByName),
-        0x20 => IdRead::Id(CommandId::FileWrite),
-        0x21 => IdRead::Id(CommandId::FileRead),
-        0x31 => IdRead::Id(CommandId::WriteMultipleParamByIndex),
-        0x32 => IdRead::Id(CommandId::ReadMultipleParamByIndex),
-        0x40 => IdRead::Id(CommandId::Abort),
-        0x70 => IdRead::Id(CommandId::MaxSegmentSize),
-        _ => IdRead::InvalidEnumValue,
-    }
-}
-
-// The byte of an id.
-pub fn id_byte(i: CommandId) -> u8
-    ensures { λ r. ⌜ r ≡ idByte i ⌝ }
-{
-    match i {
-        CommandId::Nil => 0x00,
-        CommandId::WriteByIndex => 0x01,
-        CommandId::ReadByIndex => 0x02,
-        CommandId::WriteAllByIndex => 0x03,
-        CommandId::ReadAllByIndex => 0x04,
-        CommandId::WriteByName => 0x05,
-        CommandId::ReadByName => 0x06,
-        CommandId::FileWrite => 0x20,
-        CommandId::FileRead => 0x21,
-        CommandId::WriteMultipleParamByIndex => 0x31,
-        CommandId::ReadMultipleParamByIndex => 0x32,
-        CommandId::Abort => 0x40,
-        CommandId::MaxSegmentSize => 0x70,
-    }
-}
-
-// The length of a command's header.
-pub fn header_length(s: Segmentation) -> usize
-    ensures { λ r. ⌜ r ≡ headerLength s ⌝ }
-{
-    match s {
-        Segmentation::Expedited => 8,
-        Segmentation::Initiate => 12,
-        Segmentation::Segment => 8,
-        Segmentation::Complete => 8,
-    }
-}
+ghost use Rattle.protocol.specs.Command.{flagPlaces, flagsByte, bit, totalBytes, totalOf, fixedHeader, headerOf, payloadOf, withPayload, encodeCommand, decodeWith, decodeCommand, toldCommand};
 
 // The total that a header of these bytes carries.
 fn total_of(s: Segmentation, buffer: &[u8]) -> DataSize
@@ -113,7 +34,7 @@ fn header_of(id: CommandId, buffer: &[u8]) -> CommandLayerHeader
         transaction: octets::byte_at(buffer, 1),
         response: flags / 16 % 2 == 1,
         aborted: flags / 32 % 2 == 1,
-        segmentation: segmentation(flags / 64 % 4),
+        segmentation: fields::segmentation(flags / 64 % 4),
         id: id,
         size: octets::u16_at(buffer, 4),
     }
@@ -124,7 +45,7 @@ fn with_header(h: CommandLayerHeader, buffer: &[u8]) -> CommandRead
     ensures { λ r. ⌜ toldCommand (now (buffer .entry)) r ≡ decodeWith h (now (buffer .entry)) ⌝ }
 {
     let s = h.segmentation;
-    let n = header_length(s);
+    let n = fields::header_length(s);
     if buffer.len() < n {
         return CommandRead::BufferTooShort;
     }
@@ -145,7 +66,7 @@ pub fn deserialize(buffer: &[u8]) -> CommandRead
     if buffer.len() < 8 {
         return CommandRead::BufferTooShort;
     }
-    let id = command_id(buffer[3]);
+    let id = fields::command_id(buffer[3]);
     match id {
         IdRead::Id(i) => with_header(header_of(i, buffer), buffer),
         IdRead::InvalidEnumValue => CommandRead::Undecodable,
@@ -158,14 +79,7 @@ pub fn payload<'a>(h: CommandLayerHeader, buffer: &'a [u8]) -> &'a [u8]
 {
     let s = h.segmentation;
     let size = h.size as usize;
-    octets::part(buffer, header_length(s), size)
-}
-
-// The transaction id that an undecodable command is answered under.
-pub fn undecodable_transaction(buffer: &[u8]) -> u8
-    ensures { λ r. ⌜ r ≡ undecodableTransaction (now (buffer .entry)) ⌝ }
-{
-    octets::byte_at(buffer, 0) % 16
+    octets::part(buffer, fields::header_length(s), size)
 }
 
 // A flag as a number.
@@ -180,17 +94,7 @@ fn flags(h: CommandLayerHeader) -> u8
     ensures { λ r. ⌜ r ≡ flagsByte flagPlaces (h .response) (h .aborted) (h .segmentation) ⌝ }
 {
     let s = h.segmentation;
-    bit_of(h.response) * 16 + bit_of(h.aborted) * 32 + segmentation_number(s) * 64
-}
-
-// The number in bytes 8 to 11 of an Initiate, 0 without one.
-pub fn total_number(d: DataSize) -> u32
-    ensures { λ r. ⌜ r ≡ totalNumber d ⌝ }
-{
-    match d {
-        DataSize::NoSize => 0,
-        DataSize::Size(n) => n,
-    }
+    bit_of(h.response) * 16 + bit_of(h.aborted) * 32 + fields::segmentation_number(s) * 64
 }
 
 // Writes the fixed header at the start of the buffer.
@@ -203,7 +107,7 @@ fn put_header(h: CommandLayerHeader, buffer: &mut [u8])
         0,
         h.transaction,
         flags(h),
-        id_byte(id),
+        fields::id_byte(id),
         (size % 256) as u8,
         (size / 256 % 256) as u8,
         0,
@@ -218,7 +122,7 @@ fn put_total(s: Segmentation, d: DataSize, buffer: &mut [u8])
 {
     match s {
         Segmentation::Expedited => {}
-        Segmentation::Initiate => octets::store_u32(buffer, 8, total_number(d)),
+        Segmentation::Initiate => octets::store_u32(buffer, 8, fields::total_number(d)),
         Segmentation::Segment => {}
         Segmentation::Complete => {}
     }
@@ -233,7 +137,7 @@ pub fn store(c: SdoCommand, payload: &[u8], buffer: &mut [u8])
     let s = h.segmentation;
     put_header(h, buffer);
     put_total(s, total, buffer);
-    octets::copy_at(buffer, header_length(s), payload);
+    octets::copy_at(buffer, fields::header_length(s), payload);
 }
 
 // Writes the command with its payload at the start of the buffer, whose other bytes stay. A buffer that is too short stays whole.
@@ -242,7 +146,7 @@ pub fn serialize(c: SdoCommand, payload: &[u8], buffer: &mut [u8]) -> Written
 {
     let h = c.header;
     let s = h.segmentation;
-    let n = header_length(s);
+    let n = fields::header_length(s);
     if buffer.len() < n {
         return Written::BufferTooShort;
     }

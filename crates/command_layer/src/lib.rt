@@ -87,7 +87,7 @@ fn write_command(
     let h = m.header;
     let kind = h.segmentation;
     let size = m.total;
-    let total = command::total_number(size);
+    let total = fields::total_number(size);
     downloads::write_by_index(c, share, image, clock, h.transaction, kind, total, payload)
 }
 
@@ -151,10 +151,10 @@ pub fn command_bytes(
             process_command_layer(c, share, image, clock, m, payload)
         }
         CommandRead::BufferTooShort => {
-            handlers::abort(c, command::undecodable_transaction(body), 0x05040001)
+            handlers::abort(c, fields::undecodable_transaction(body), 0x05040001)
         }
         CommandRead::Undecodable => {
-            handlers::abort(c, command::undecodable_transaction(body), 0x05040001)
+            handlers::abort(c, fields::undecodable_transaction(body), 0x05040001)
         }
     }
 }

@@ -86,9 +86,9 @@ fn with_command(f: Frame, c: SdoCommand) -> Frame
         transaction: h.transaction,
         response: h.response,
         aborted: h.aborted,
-        segmentation: command::segmentation_number(s),
-        id: command::id_byte(id),
-        total: command::total_number(total),
+        segmentation: fields::segmentation_number(s),
+        id: fields::id_byte(id),
+        total: fields::total_number(total),
         start: start_of(s),
         size: h.size as usize,
     }

@@ -17,7 +17,7 @@ ghost use Rattle.protocol.specs.ConnectionRecord.{uploadCommand};
 fn asks_next(id: CommandId, response: bool) -> bool
     ensures { λ r. ⌜ r ≡ (eqb (idByte id) 0 || response) ⌝ }
 {
-    if command::id_byte(id) == 0 {
+    if fields::id_byte(id) == 0 {
         return true;
     }
     response

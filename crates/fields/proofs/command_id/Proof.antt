@@ -1,8 +1,8 @@
 use borrow.Author.Tests.{ne-eqb}
 use Rattle.picks.specs.Pick.{pick}
 use Rattle.protocol.specs.Command.{idOf, idAmong, knownIds}
-use Rattle.command.proofs.command_id.Statement.{statement}
-use Rattle.command.proofs.command_id.Tie as tie
+use Rattle.fields.proofs.command_id.Statement.{statement}
+use Rattle.fields.proofs.command_id.Tie as tie
 
 returns : tie.Need-returns
 unfolding idOf idAmong knownIds pick

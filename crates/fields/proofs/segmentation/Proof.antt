@@ -1,8 +1,8 @@
 use borrow.Author.Tests.{ne-eqb}
 use Rattle.picks.specs.Pick.{pick}
 use Rattle.protocol.specs.Command.{segmentationOf}
-use Rattle.command.proofs.segmentation.Statement.{statement}
-use Rattle.command.proofs.segmentation.Tie as tie
+use Rattle.fields.proofs.segmentation.Statement.{statement}
+use Rattle.fields.proofs.segmentation.Tie as tie
 
 returns : tie.Need-returns
 unfolding segmentationOf pick
