@@ -9,7 +9,7 @@ use mathlib.Core.List.{List, [], _∷_, _++_, map, tail, append-nil}
 use lib.ListN.{length, getD, set, take, drop, length-set}
 use lib.Seq.{getD-set-same}
 use lib.Dec.{ltb, leb, eqb}
-use borrow.Author.Tests.{ltb-true, ltb-false, eqb-true, not-true, lt-ltb, le-ltb, eq-eqb}
+use borrow.Author.Tests.{ltb-true, ltb-false, eqb-true, not-true, lt-ltb, le-ltb, le-leb, lt-leb, eq-eqb}
 use Rattle.picks.specs.Pick.{pick, first, every, count, keep}
 use Rattle.picks.proofs.Picks.{pick-t, pick-f}
 use Rattle.picks.proofs.Keep.{by-test, not-both, both, of-both, keep-yes, keep-no, count-yes, count-no, every-cons, of-every, keep-append, every-append, count-append, every-kept, length-keep, keep-all, keep-none, count-none, every-always, every-at, every-by-place, count-at, one-place, every-set, count-set, first-set, keep-set, first-at, first-before, first-out, first-counted, first-kept, first-there, every-follows, every-keep, count-split, count-all, keep-within, keep-swap, every-map, count-map, every-tail, head-tail}
@@ -692,3 +692,11 @@ module _ (t : List Connection) (clock : ℕ) where
   pub chosen-none : length t ≤ chosen t clock → every (λ r. not (isDue clock r)) t ≡ true
   unfolding chosen
   chosen-none h = first-out (isDue clock) t h
+
+-- A record is due from the clock on that is its deadline, and not before: the bench card's "deadline 1,000,000 …, clock 999,999; 1,000,000".
+module _ (clock n : ℕ) (r : Connection) (used : r .used ≡ true) (deadline : transferDeadline (r .state) ≡ At n) where
+  pub due-from-deadline : n ≤ clock → isDue clock r ≡ true
+  due-from-deadline h = both used (ap (isPast clock) deadline ∙ le-leb n clock h)
+
+  pub not-due-before : clock < n → isDue clock r ≡ false
+  not-due-before h = rw used (ap (isPast clock) deadline ∙ lt-leb n clock h)

@@ -7,6 +7,7 @@ pub mod DictionaryImage
 pub mod Deadlines
 pub mod Pieces
 pub mod ConnectionTable
+pub mod ConnectionRecord
 pub mod RecordSound
 pub mod ServeSound
 pub mod TickSound
