@@ -3,7 +3,7 @@ use mathlib.Core.Path.{_≡_, refl}
 use mathlib.Core.Bool.{Bool, true, _&&_}
 use Rattle.picks.specs.Pick.{pick, first, fold, every, count, keep}
 use Rattle.octets.specs.Octets.{le, leBytes, splice}
-use Rattle.protocol.specs.BenchCard.{same, sentBy, tickSentBy, play, plays, uploads, valueFrom, onEmpty, inState, test, downloading, uploading, rows}
+use Rattle.bench_card.specs.BenchCard.{same, sentBy, tickSentBy, play, plays, uploads, valueFrom, onEmpty, inState, test, downloading, uploading, rows}
 use Rattle.protocol.specs.Calls.{verdict, frame}
 use Rattle.protocol.specs.Command.{flagPlaces, segmentationOf, knownIds, idAmong, idOf, fixedHeader, encodeCommand, decodeWith, decodeId, decodeCommand}
 use Rattle.protocol.specs.ConnectionRecord.{beforeIn, beforeStep, closedStep, openingStep, acknowledge, laterStep, stepIn, sequenceStep, dispatch, uploadCommand, commandIn, commandLayer, settle, answered, emptyIn, emptyFrame, afterStep, onStep, onBefore, onHeader, serve}

@@ -11,7 +11,7 @@ use Rattle.protocol.specs.declared.SdoClientInfo.{SdoClientInfo}
 use Rattle.protocol.specs.declared.SdoClientInfo.the-variants.{Asnd, Udp}
 use Rattle.protocol.specs.Constants.{AREA, ANSWER-MIN}
 use Rattle.protocol.specs.Request.{requestOf}
-use Rattle.protocol.specs.BenchCard.{same, object, valueFrom, handshake, read, acknowledgement}
+use Rattle.bench_card.specs.BenchCard.{same, object, valueFrom, handshake, read, acknowledgement}
 use Rattle.protocol.specs.Series.{Call, request, tick, Server, start, step, run}
 use Rattle.protocol.specs.EveryUpload.{Frame, framesOf, isPiece, isDropped, isComplete, Spelled, spell}
 

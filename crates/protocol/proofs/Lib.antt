@@ -21,4 +21,3 @@ pub mod Spelling
 pub mod StaysSound
 pub mod Series
 pub mod InOrder
-pub mod Vectors

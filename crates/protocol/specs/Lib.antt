@@ -10,6 +10,5 @@ pub mod Calls
 pub mod Request
 pub mod Tick
 pub mod DeadlineQuery
-pub mod BenchCard
 pub mod Series
 pub mod EveryUpload

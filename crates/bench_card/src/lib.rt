@@ -1,0 +1,1 @@
+// The bench card's rows marked P, computed from the definitions. No code.
