@@ -17,7 +17,7 @@ use Rattle.show.specs.Text.{Page, laid, letters, hexText, decimal, bytes
 use Rattle.show.proofs.Laid.{laid-laid}
 
 -- a place of a list after a store there
-stored-at : (xs : List ℕ) (i v : ℕ) → i < length xs → drop i (set xs i v) ≡ v ∷ drop (suc i) xs
+pub stored-at : (xs : List ℕ) (i v : ℕ) → i < length xs → drop i (set xs i v) ≡ v ∷ drop (suc i) xs
 stored-at xs i v h =
     let l : i < length (set xs i v) = rw length-set h in
     rw (drop-cons (set xs i v) i 0 l, getD-set-same xs i v 0 h, drop-set-lt (suc i) xs i v (omega arith))

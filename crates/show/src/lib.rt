@@ -1,5 +1,5 @@
 // Texts, numbers and bytes laid on a lent page, and the parts of a text. A page has a place, where the next text goes; what does not fit is dropped.
-ghost use Prim.Native.Nat.{_<_, _≤_, min};
+ghost use Prim.Native.Nat.{_%_, _≤_, min};
 ghost use mathlib.Core.Path.{_≡_};
 ghost use lib.ListN.{length, drop};
 ghost use lib.Dec.{eqb};
@@ -26,22 +26,22 @@ pub fn put(page: &mut [u8], at: usize, text: &[u8]) -> usize
     at + n
 }
 
-// A digit, 0 to 9 and then A to F.
-fn digit(n: u64) -> u8
-    requires { ⌜ n < 16 ⌝ }
-    ensures { λ r. ⌜ r ≡ digitOf n ⌝ }
+// The last digit of a number in hex, 0 to 9 and then A to F.
+pub fn digit(n: u64) -> u8
+    ensures { λ r. ⌜ r ≡ digitOf (n % 16) ⌝ }
 {
-    if n < 10 {
-        return b'0' + n as u8;
+    let d = n % 16;
+    if d < 10 {
+        return b'0' + d as u8;
     }
-    b'A' - 10 + n as u8
+    b'A' - 10 + d as u8
 }
 
 // The lowest byte of a number, in hex.
 pub fn put_hex(page: &mut [u8], at: usize, n: u64) -> usize
     ensures { λ r. ⌜ pageAt r (now (page .exit)) ≡ laid (pageAt at (now (page .entry))) (hexText n) ⌝ }
 {
-    put(page, at, &[digit(n / 16 % 16), digit(n % 16)])
+    put(page, at, &[digit(n / 16), digit(n)])
 }
 
 // The digits of a number go to the end of a text; answers where they begin.

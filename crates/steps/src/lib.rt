@@ -173,12 +173,8 @@ fn put_range(page: &mut [u8], at: usize, r: Reading, n: usize) -> usize
     if sent < n {
         return at;
     }
-    let at = show::put(page, at, b": bytes ");
-    let at = show::put_number(page, at, (sent - n) as u64 + 1);
-    let at = show::put(page, at, b" to ");
-    let at = show::put_number(page, at, sent as u64);
-    let at = show::put(page, at, b" of ");
-    show::put_number(page, at, r.total as u64)
+    let numbers = [(sent - n) as u64 + 1, sent as u64, r.total as u64];
+    template::put(page, at, b": bytes # to # of #", &numbers)
 }
 
 // A piece of n bytes, once it is sent. Without a size its reading began where the recording does not show it.
@@ -201,11 +197,9 @@ fn put_piece(page: &mut [u8], at: usize, what: &[u8], r: Reading, n: usize) -> u
 fn put_whole(page: &mut [u8], at: usize, r: Reading) -> usize
     ensures { λ s. ⌜ pageAt s (now (page .exit)) ≡ laid (pageAt at (now (page .entry))) (wholeText r) ⌝ }
 {
-    let at = show::put(page, at, b"the whole value of ");
-    let at = wording::put_object(page, at, r.index, r.sub);
-    let at = show::put(page, at, b": ");
-    let at = show::put_number(page, at, r.sent as u64);
-    show::put(page, at, b" bytes")
+    let numbers = [r.index as u64, r.sub as u64, r.sent as u64];
+    let words = b"the whole value of object & hex, sub-index #: # bytes";
+    template::put(page, at, words, &numbers)
 }
 
 // An answer that is no piece of an upload and no abort, to a command.

@@ -4,99 +4,46 @@ use reading::frame;
 use reading::frame::Frame;
 ghost use mathlib.Core.Path.{_≡_};
 ghost use mathlib.Core.List.{[]};
-ghost use Prim.Native.Nat.{_%_};
 ghost use Rattle.picks.specs.Pick.{pick};
-ghost use Rattle.show.specs.Text.{pageAt, laid, entry, digits, digitOf};
-ghost use Rattle.wording.specs.Words.{clockText, dotted, addressText, dashed, macText, nodeText, portText, clientText, codeText, objectText, textsOf, meanings, unknownCode, meaning, abortText, refusalText, names, idText, headerText, kindText, totalText, commandText, decodedText, frameText};
-
-// A decimal digit.
-fn digit(n: u64) -> u8
-    ensures { λ r. ⌜ r ≡ digitOf (n % 10) ⌝ }
-{
-    b'0' + (n % 10) as u8
-}
-
-// The last six digits of a number.
-fn put_six(page: &mut [u8], at: usize, n: u64) -> usize
-    ensures { λ r. ⌜ pageAt r (now (page .exit)) ≡ laid (pageAt at (now (page .entry))) (digits 10 6 n) ⌝ }
-{
-    let text = [
-        digit(n / 100000),
-        digit(n / 10000),
-        digit(n / 1000),
-        digit(n / 100),
-        digit(n / 10),
-        digit(n),
-    ];
-    show::put(page, at, &text)
-}
+ghost use Rattle.show.specs.Text.{pageAt, laid, entry};
+ghost use Rattle.wording.specs.Words.{clockText, nodeText, portText, clientText, codeText, objectText, textsOf, meanings, unknownCode, meaning, abortText, refusalText, names, idText, headerText, kindText, totalText, commandText, decodedText, frameText};
 
 // A clock of microseconds, in seconds.
 pub fn put_clock(page: &mut [u8], at: usize, clock: u64) -> usize
     ensures { λ r. ⌜ pageAt r (now (page .exit)) ≡ laid (pageAt at (now (page .entry))) (clockText clock) ⌝ }
 {
-    let at = show::put_number(page, at, clock / 1000000);
-    let at = show::put(page, at, b".");
-    let at = put_six(page, at, clock);
-    show::put(page, at, b" s")
-}
-
-// A byte of an address, behind another.
-fn put_dotted(page: &mut [u8], at: usize, n: u64) -> usize
-    ensures { λ r. ⌜ pageAt r (now (page .exit)) ≡ laid (pageAt at (now (page .entry))) (dotted n) ⌝ }
-{
-    let at = show::put(page, at, b".");
-    show::put_number(page, at, n)
-}
-
-// The four bytes of an address.
-fn put_address(page: &mut [u8], at: usize, ip: u32) -> usize
-    ensures { λ r. ⌜ pageAt r (now (page .exit)) ≡ laid (pageAt at (now (page .entry))) (addressText ip) ⌝ }
-{
-    let at = show::put_number(page, at, (ip / 16777216) as u64);
-    let at = put_dotted(page, at, (ip / 65536 % 256) as u64);
-    let at = put_dotted(page, at, (ip / 256 % 256) as u64);
-    put_dotted(page, at, (ip % 256) as u64)
-}
-
-// A byte of a MAC address, behind another.
-fn put_dashed(page: &mut [u8], at: usize, n: u64) -> usize
-    ensures { λ r. ⌜ pageAt r (now (page .exit)) ≡ laid (pageAt at (now (page .entry))) (dashed n) ⌝ }
-{
-    let at = show::put(page, at, b"-");
-    show::put_hex(page, at, n)
-}
-
-// The six bytes of a MAC address.
-fn put_mac(page: &mut [u8], at: usize, mac: u64) -> usize
-    ensures { λ r. ⌜ pageAt r (now (page .exit)) ≡ laid (pageAt at (now (page .entry))) (macText mac) ⌝ }
-{
-    let at = show::put_hex(page, at, mac / 1099511627776);
-    let at = put_dashed(page, at, mac / 4294967296);
-    let at = put_dashed(page, at, mac / 16777216);
-    let at = put_dashed(page, at, mac / 65536);
-    let at = put_dashed(page, at, mac / 256);
-    put_dashed(page, at, mac)
+    template::put(page, at, b"#.^ s", &[clock / 1000000, clock])
 }
 
 // A client on the raw network.
 fn put_node(page: &mut [u8], at: usize, node: u8, mac: u64) -> usize
     ensures { λ r. ⌜ pageAt r (now (page .exit)) ≡ laid (pageAt at (now (page .entry))) (nodeText node mac) ⌝ }
 {
-    let at = show::put(page, at, b"node ");
-    let at = show::put_number(page, at, node as u64);
-    let at = show::put(page, at, b" (MAC ");
-    let at = put_mac(page, at, mac);
-    show::put(page, at, b")")
+    let numbers = [
+        node as u64,
+        mac / 1099511627776,
+        mac / 4294967296,
+        mac / 16777216,
+        mac / 65536,
+        mac / 256,
+        mac,
+    ];
+    template::put(page, at, b"node # (MAC @-@-@-@-@-@)", &numbers)
 }
 
 // A client over UDP.
 fn put_port(page: &mut [u8], at: usize, ip: u32, port: u16) -> usize
     ensures { λ r. ⌜ pageAt r (now (page .exit)) ≡ laid (pageAt at (now (page .entry))) (portText ip port) ⌝ }
 {
-    let at = put_address(page, at, ip);
-    let at = show::put(page, at, b" port ");
-    show::put_number(page, at, port as u64)
+    let ip = ip as u64;
+    let numbers = [
+        ip / 16777216,
+        ip / 65536 % 256,
+        ip / 256 % 256,
+        ip % 256,
+        port as u64,
+    ];
+    template::put(page, at, b"#.#.#.# port #", &numbers)
 }
 
 // A client.
@@ -109,32 +56,23 @@ pub fn put_client(page: &mut [u8], at: usize, client: SdoClientInfo) -> usize
     }
 }
 
-// An index in four digits.
-fn put_index(page: &mut [u8], at: usize, index: u16) -> usize
-    ensures { λ r. ⌜ pageAt r (now (page .exit)) ≡ laid (pageAt at (now (page .entry))) (digits 16 4 index) ⌝ }
-{
-    let at = show::put_hex(page, at, (index / 256) as u64);
-    show::put_hex(page, at, index as u64)
-}
-
 // An object.
 pub fn put_object(page: &mut [u8], at: usize, index: u16, sub: u8) -> usize
     ensures { λ r. ⌜ pageAt r (now (page .exit)) ≡ laid (pageAt at (now (page .entry))) (objectText index sub) ⌝ }
 {
-    let at = show::put(page, at, b"object ");
-    let at = put_index(page, at, index);
-    let at = show::put(page, at, b" hex, sub-index ");
-    show::put_number(page, at, sub as u64)
+    template::put(
+        page,
+        at,
+        b"object & hex, sub-index #",
+        &[index as u64, sub as u64],
+    )
 }
 
 // A number in eight hex digits.
 pub fn put_code(page: &mut [u8], at: usize, code: u32) -> usize
     ensures { λ r. ⌜ pageAt r (now (page .exit)) ≡ laid (pageAt at (now (page .entry))) (codeText code) ⌝ }
 {
-    let at = show::put_hex(page, at, (code / 16777216) as u64);
-    let at = show::put_hex(page, at, (code / 65536) as u64);
-    let at = show::put_hex(page, at, (code / 256) as u64);
-    show::put_hex(page, at, code as u64)
+    template::put(page, at, b"*", &[code as u64])
 }
 
 // The place of an abort's code in the table of their meanings.
@@ -289,9 +227,7 @@ fn put_total(page: &mut [u8], at: usize, f: Frame) -> usize
     if f.segmentation != 1 {
         return at;
     }
-    let at = show::put(page, at, b", ");
-    let at = show::put_number(page, at, f.total as u64);
-    show::put(page, at, b" bytes in all")
+    template::put(page, at, b", # bytes in all", &[f.total as u64])
 }
 
 // The command's header.
@@ -299,12 +235,9 @@ fn put_command(page: &mut [u8], at: usize, f: Frame) -> usize
     ensures { λ r. ⌜ pageAt r (now (page .exit)) ≡ laid (pageAt at (now (page .entry))) (commandText f) ⌝ }
 {
     let at = put_kind(page, at, f);
-    let at = show::put(page, at, b", transaction ");
-    let at = show::put_number(page, at, f.transaction as u64);
+    let at = template::put(page, at, b", transaction #", &[f.transaction as u64]);
     let at = put_total(page, at, f);
-    let at = show::put(page, at, b", ");
-    let at = show::put_number(page, at, f.size as u64);
-    show::put(page, at, b" bytes of data")
+    template::put(page, at, b", # bytes of data", &[f.size as u64])
 }
 
 // What a frame has: a header unless it is too short, a command or none.
