@@ -159,15 +159,16 @@ fn left_in(t: [Connection; 8]) -> u8 {
 }
 
 fn say_left(left: u8) {
-    match left {
-        0 => print::say(b"; no record in use\n"),
-        1 => print::say(b"; Opening\n"),
-        2 => print::say(b"; Established\n"),
-        3 => print::say(b"; upload\n"),
-        4 => print::say(b"; download\n"),
-        5 => print::say(b"; Closed\n"),
-        _ => print::say(b"; more than one record in use\n"),
-    }
+    let table = b"; no record in use
+; Opening
+; Established
+; upload
+; download
+; Closed
+; more than one record in use
+";
+    print::say(show::line(table, left));
+    print::say(b"\n");
 }
 
 fn refusal_number(x: Refusal) -> u8 {
@@ -246,9 +247,10 @@ fn say_given(bytes: &[u8]) {
 }
 
 fn say_clock(clock: u64) {
-    print::say(b"an upload due at 1000000 without retries\n            given  a tick at ");
-    print::say_number(clock);
-    print::say(b"\n");
+    print::say_filled(
+        b"an upload due at 1000000 without retries\n            given  a tick at #\n",
+        &[clock],
+    );
 }
 
 // What came of a call, in words.
@@ -256,8 +258,7 @@ fn say_came(came: Came, answer: &[u8]) {
     print::say(b"            came  ");
     print::say_start(octets::part(answer, 0, came.len), 16);
     if came.refused > 0 {
-        print::say(b" refused with ");
-        print::say_number(came.refused as u64);
+        print::say_filled(b" refused with #", &[came.refused as u64]);
     } else if came.len == 0 {
         print::say(b" nothing");
     }
@@ -269,13 +270,10 @@ fn say_due(head: &[u8], due: Due) {
     print::say(b"            due   ");
     print::say(head);
     if due.size > 0 {
-        print::say(b" and ");
-        print::say_number(due.size as u64);
-        print::say(b" bytes of the object");
+        print::say_filled(b" and # bytes of the object", &[due.size as u64]);
     }
     if due.refused > 0 {
-        print::say(b" refused with ");
-        print::say_number(due.refused as u64);
+        print::say_filled(b" refused with #", &[due.refused as u64]);
     }
     say_left(due.left);
 }

@@ -42,8 +42,5 @@ fn table_rows(s: Score) -> Score {
 fn main() {
     let s = codec_rows(Score { rows: 0, differ: 0 });
     let s = table_rows(call_rows(s));
-    print::say_number(s.rows);
-    print::say(b" rows, ");
-    print::say_number(s.differ);
-    print::say(b" differ\n");
+    print::say_filled(b"# rows, # differ\n", &[s.rows, s.differ]);
 }

@@ -11,9 +11,10 @@ fn print(page: &[u8], end: usize) {
     say(octets::part(page, 0, end));
 }
 
-pub fn say_number(n: u64) {
+// Words with numbers in them: crate `template` has the marks.
+pub fn say_filled(words: &[u8], numbers: &[u64]) {
     let mut page = [0; PAGE];
-    let end = show::put_number(&mut page, 0, n);
+    let end = template::put(&mut page, 0, words, numbers);
     print(&page, end);
 }
 

@@ -114,13 +114,12 @@ fn end(input: &[u8; INPUT], e: Exercise, run: Run) {
 fn say_title(e: Exercise) {
     print::say(b"MARKED SHEET\nExercise: read ");
     print::say_object(e.index, e.sub);
-    print::say(b", to its end: ");
-    print::say_number(e.length as u64);
-    print::say(
-        b" bytes.
+    print::say_filled(
+        b", to its end: # bytes.
 Each step is what a client sent and what the controller answered: in words, decoded, and as bytes in hex.
 
 ",
+        &[e.length as u64],
     );
 }
 

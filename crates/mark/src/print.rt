@@ -16,9 +16,10 @@ fn print(page: &[u8], end: usize) {
     say(octets::part(page, 0, end));
 }
 
-pub fn say_number(n: u64) {
+// Words with numbers in them: crate `template` has the marks.
+pub fn say_filled(words: &[u8], numbers: &[u64]) {
     let mut page = [0; PAGE];
-    let end = show::put_number(&mut page, 0, n);
+    let end = template::put(&mut page, 0, words, numbers);
     print(&page, end);
 }
 
@@ -41,12 +42,6 @@ pub fn say_client(client: SdoClientInfo) {
 pub fn say_object(index: u16, sub: u8) {
     let mut page = [0; PAGE];
     let end = wording::put_object(&mut page, 0, index, sub);
-    print(&page, end);
-}
-
-pub fn say_code(code: u32) {
-    let mut page = [0; PAGE];
-    let end = wording::put_code(&mut page, 0, code);
     print(&page, end);
 }
 

@@ -122,9 +122,7 @@ fn refused(mut s: Sheet, e: Exercise, request: &[u8], number: u8) -> Sheet {
 
 // The line that begins a step.
 fn say_head(s: Sheet, item: &[u8]) {
-    print::say(b"Call ");
-    print::say_number(s.calls);
-    print::say(b" at ");
+    print::say_filled(b"Call # at ", &[s.calls]);
     print::say_clock(items::clock_of(item));
     print::say(b", ");
 }

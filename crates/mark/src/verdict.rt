@@ -9,14 +9,9 @@ use marking::Marks;
 // A finish, without an end of the line.
 fn say_finish(f: Finish) {
     let client = f.client;
-    print::say(b"call ");
-    print::say_number(f.call);
-    print::say(b", ");
+    print::say_filled(b"call #, ", &[f.call]);
     print::say_client(client);
-    print::say(b": ");
-    print::say_number(f.length as u64);
-    print::say(b" bytes, CRC-32 ");
-    print::say_code(f.crc);
+    print::say_filled(b": # bytes, CRC-32 *", &[f.length as u64, f.crc as u64]);
 }
 
 // A finish, on a line of its own.
@@ -39,16 +34,12 @@ fn say_finishes(rows: [Finish; 8], finished: u64) {
 
 // What was played, and each finish.
 fn say_counts(s: Sheet, e: Exercise) {
-    print::say_number(s.calls);
-    print::say(b" calls. Not shown: ");
-    print::say_number(s.silent);
-    print::say(b" of the controller's own clock that sent nothing, and ");
-    print::say_number(s.queries);
-    print::say(b" that asked for the next deadline.\nFinished readings of ");
+    let words =
+        b"# calls. Not shown: # of the controller's own clock that sent nothing, and # that asked for the next deadline.
+Finished readings of ";
+    print::say_filled(words, &[s.calls, s.silent, s.queries]);
     print::say_object(e.index, e.sub);
-    print::say(b": ");
-    print::say_number(s.finished);
-    print::say(b"\n");
+    print::say_filled(b": #\n", &[s.finished]);
     let rows = s.finishes;
     say_finishes(rows, s.finished);
     if 8 < s.finished {
@@ -58,10 +49,8 @@ fn say_counts(s: Sheet, e: Exercise) {
 
 // Where a reading that did not end stopped.
 fn say_stopped(m: Marks, sent: u32, total: u32) {
-    print::say(b"the reading began and stopped at byte ");
-    print::say_number(sent as u64);
-    print::say(b" of ");
-    print::say_number(total as u64);
+    let words = b"the reading began and stopped at byte # of #";
+    print::say_filled(words, &[sent as u64, total as u64]);
     if m.ended == 0 {
         print::say(b": the pieces were not acknowledged to the end.");
         return;
@@ -72,11 +61,10 @@ fn say_stopped(m: Marks, sent: u32, total: u32) {
 }
 
 fn say_other_length(e: Exercise, length: u32) {
-    print::say(b"the object was read to its end, but has ");
-    print::say_number(length as u64);
-    print::say(b" bytes where the exercise asks for ");
-    print::say_number(e.length as u64);
-    print::say(b".");
+    print::say_filled(
+        b"the object was read to its end, but has # bytes where the exercise asks for #.",
+        &[length as u64, e.length as u64],
+    );
 }
 
 fn say_not_asked(e: Exercise) {
@@ -127,7 +115,7 @@ fn say_passed(s: Sheet) {
 fn say_cut(ended: &[u8], at: u64) {
     print::say(b"the recording ");
     print::say(ended);
-    print::say_number(at);
+    print::say_filled(b"#", &[at]);
 }
 
 // The mark of a recording in which no reading passed. One that is not whole shows no more than what came before.
