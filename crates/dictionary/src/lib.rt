@@ -30,11 +30,15 @@ pub struct Parameters {
     pub retries: u32, // how often a segment is sent again
 }
 
-// Whether the entry at a place has this index.
+// Whether the entry at a place, one that a count of entries can reach, has this index.
 fn has_index(image: &[u8], at: usize, index: u16) -> bool
+    requires { ⌜ at ≤ 786422 ⌝ }
     ensures { λ r. ⌜ r ≡ eqb (entryAt (now (image .entry)) at .index) index ⌝ }
 {
-    octets::u16_at(image, at) == index
+    if image.len() < at + 2 {
+        return octets::u16_at(image, at) == index;
+    }
+    entries::u16_of(image[at], image[at + 1]) == index
 }
 
 // Whether an entry's index is the one asked for, and the entry at the place has this sub-index.
@@ -69,19 +73,12 @@ fn entries_end(image: &[u8], n: usize) -> usize
     if image.len() < end { image.len() } else { end }
 }
 
-// Two bytes as a number, the first the lowest.
-fn u16_of(low: u8, high: u8) -> u16
-    ensures { λ r. ⌜ r ≡ low + 256 * high ⌝ }
-{
-    (low as u16) + 256 * (high as u16)
-}
-
 // Whether the index of the entry at a place within the image is one of a range.
 fn in_range(image: &[u8], at: usize, low: u16, high: u16) -> bool
     requires { ⌜ at + 2 ≤ length (now image) ⌝ }
     ensures { λ r. ⌜ r ≡ inRange low high (entryAt (now (image .entry)) at) ⌝ }
 {
-    let index = u16_of(image[at], image[at + 1]);
+    let index = entries::u16_of(image[at], image[at + 1]);
     (low <= index) & (index <= high)
 }
 

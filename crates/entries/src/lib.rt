@@ -3,9 +3,10 @@ use protocol::Access;
 use protocol::Entry;
 use protocol::Lookup;
 ghost use mathlib.Core.Path.{_≡_};
-ghost use Prim.Native.Nat.{_+_, _<_};
+ghost use Prim.Native.Nat.{_+_, _*_, _≤_};
 ghost use lib.ListN.{length};
 ghost use Rattle.octets.specs.Octets.{leBytes, splice};
+ghost use Rattle.entries.specs.Reading.{entryIn};
 ghost use Rattle.protocol.specs.declared.Lookup.the-variants.{Found};
 ghost use Rattle.protocol.specs.DictionaryImage.{entryAt, isVariable, isReadOnly, valueOf, readable, parameterOf, writable, writeImage};
 
@@ -23,20 +24,59 @@ const NO_SUB_INDEX: u32 = 0x06090011;
 // The last place to which ten can be added.
 const PLACE_MAX: usize = 18446744073709551605;
 
-// The entry at a place; bytes past the end are 0.
+// Two bytes as a number, the first the lowest.
+pub fn u16_of(low: u8, high: u8) -> u16
+    ensures { λ r. ⌜ r ≡ low + 256 * high ⌝ }
+{
+    (low as u16) + 256 * (high as u16)
+}
+
+// Two numbers of two bytes as one, the first the lowest.
+fn u32_of(low: u16, high: u16) -> u32
+    ensures { λ r. ⌜ r ≡ low + 65536 * high ⌝ }
+{
+    (low as u32) + 65536 * (high as u32)
+}
+
+// The entry in these bytes, all twelve of which are there.
+fn whole(place: usize, b: &[u8]) -> Entry
+    requires { ⌜ 12 ≤ length (now b) ⌝ }
+    ensures { λ r. ⌜ r ≡ entryIn place (now (b .entry)) ⌝ }
+{
+    Entry {
+        place: place,
+        index: u16_of(b[0], b[1]),
+        sub: b[2],
+        flags: b[3],
+        body: u32_of(u16_of(b[4], b[5]), u16_of(b[6], b[7])),
+        capacity: u16_of(b[8], b[9]),
+        length: u16_of(b[10], b[11]),
+    }
+}
+
+// The entry in these bytes, which has this place; bytes past the end are 0.
+pub fn entry_in(place: usize, b: &[u8]) -> Entry
+    ensures { λ r. ⌜ r ≡ entryIn place (now (b .entry)) ⌝ }
+{
+    if b.len() < 12 {
+        return Entry {
+            place: place,
+            index: octets::u16_at(b, 0),
+            sub: octets::byte_at(b, 2),
+            flags: octets::byte_at(b, 3),
+            body: octets::u32_at(b, 4),
+            capacity: octets::u16_at(b, 8),
+            length: octets::u16_at(b, 10),
+        };
+    }
+    whole(place, b)
+}
+
+// The entry at a place of an image.
 pub fn entry_at(image: &[u8], at: usize) -> Entry
     ensures { λ r. ⌜ r ≡ entryAt (now (image .entry)) at ⌝ }
 {
-    let s = octets::rest(image, at);
-    Entry {
-        place: at,
-        index: octets::u16_at(s, 0),
-        sub: octets::byte_at(s, 2),
-        flags: octets::byte_at(s, 3),
-        body: octets::u32_at(s, 4),
-        capacity: octets::u16_at(s, 8),
-        length: octets::u16_at(s, 10),
-    }
+    entry_in(at, octets::rest(image, at))
 }
 
 // Whether an entry's length may be below its capacity.

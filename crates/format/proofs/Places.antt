@@ -1,22 +1,17 @@
 -- Where a number and a record stand: within a record's 40 bytes, and within a table's.
 use Prim.Native.Nat.{ℕ, zero, suc, _+_, _*_, _<_, _≤_}
 use native.Mathlib.Omega.{arith}
-use mathlib.Core.Path.{_≡_, refl, ap, _∙_}
-use mathlib.Core.List.{List, [], _∷_, map}
+use mathlib.Core.Path.{_≡_, ap, _∙_}
+use mathlib.Core.List.{List, map}
 use lib.ListN.{getD, take, drop, List·getD-eq-default}
-use lib.Seq.{take-take, drop-drop}
+use lib.Seq.{drop-drop}
 use Rattle.octets.specs.Octets.{le}
+use Rattle.octets.proofs.Parts.{part-within}
 use Rattle.protocol.specs.declared.Connection.{Connection}
 use Rattle.format.specs.Format.{numberAt, recordOf, rows, tableOf}
 use Rattle.format.proofs.Ranges.{length-tableOf}
 
--- a part within the first m
-part-within : (n k m : ℕ) (r : List ℕ) → k + n ≤ m → take n (drop k (take m r)) ≡ take n (drop k r)
-part-within n zero m r h = take-take n m r (omega arith)
-part-within n (suc k) zero r h = absurd (omega arith)
-part-within n (suc k) (suc m) [] h = refl
-part-within n (suc k) (suc m) (x ∷ r) h = part-within n k m r (omega arith)
-
+-- a number within a record
 pub number-in : (n k at : ℕ) (s : List ℕ) → k + n ≤ 40 → numberAt n k (take 40 (drop at s)) ≡ numberAt n (at + k) s
 number-in n k at s h = ap le (part-within n k 40 (drop at s) h ∙ ap (take n) (drop-drop k at s))
 

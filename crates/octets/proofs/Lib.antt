@@ -1,3 +1,4 @@
 pub mod Splice
 pub mod Little
 pub mod Bytes
+pub mod Parts

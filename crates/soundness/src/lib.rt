@@ -4,8 +4,7 @@ ghost use mathlib.Core.Path.{_≡_};
 ghost use Prim.Native.Nat.{_+_, _*_, _≤_, _<_};
 ghost use mathlib.Core.Bool.{false, _&&_, _||_};
 ghost use lib.Dec.{leb, eqb};
-ghost use lib.ListN.{length, getD, take, drop};
-ghost use Rattle.octets.specs.Octets.{le};
+ghost use lib.ListN.{length};
 ghost use Rattle.protocol.specs.DictionaryImage.{entryAt, entriesFrom, isVariable, key, soundEntry, soundEntries, soundImage};
 
 // The longest image, and the largest capacity of an entry.
@@ -13,48 +12,13 @@ const IMAGE_MAX: usize = 65536;
 
 const CAPACITY_MAX: u16 = 8192;
 
-// The byte at a place within the image.
-fn byte_in(image: &[u8], at: usize) -> u8
-    requires { ⌜ at + 1 ≤ length (now image) ⌝ }
-    ensures { λ r. ⌜ r ≡ getD (now (image .entry)) at 0 ⌝ }
-{
-    image[at]
-}
-
-// The u16 at a place within the image.
-pub fn u16_in(image: &[u8], at: usize) -> u16
-    requires { ⌜ at + 2 ≤ length (now image) ⌝ }
-    ensures { λ r. ⌜ r ≡ le (take 2 (drop at (now (image .entry)))) ⌝ }
-{
-    let low = byte_in(image, at);
-    let high = byte_in(image, at + 1);
-    (low as u16) + 256 * (high as u16)
-}
-
-// The u32 at a place within the image.
-fn u32_in(image: &[u8], at: usize) -> u32
-    requires { ⌜ at + 4 ≤ length (now image) ⌝ }
-    ensures { λ r. ⌜ r ≡ le (take 4 (drop at (now (image .entry)))) ⌝ }
-{
-    let low = u16_in(image, at);
-    let high = u16_in(image, at + 2);
-    (low as u32) + 65536 * (high as u32)
-}
-
 // The entry at a place, all of it within the image.
-pub fn entry_in(image: &[u8], at: usize) -> Entry
+fn entry_in(image: &[u8], at: usize) -> Entry
     requires { ⌜ at + 12 ≤ length (now image) ⌝ }
     ensures { λ r. ⌜ r ≡ entryAt (now (image .entry)) at ⌝ }
 {
-    Entry {
-        place: at,
-        index: u16_in(image, at),
-        sub: byte_in(image, at + 2),
-        flags: byte_in(image, at + 3),
-        body: u32_in(image, at + 4),
-        capacity: u16_in(image, at + 8),
-        length: u16_in(image, at + 10),
-    }
+    let end = at + 12;
+    entries::entry_in(at, &image[at..end])
 }
 
 // The number that entries are ordered by.

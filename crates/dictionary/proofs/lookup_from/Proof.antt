@@ -25,6 +25,9 @@ mul-at c = let less = c .skip .ensures .1 (c .before .loop-test .taken) in omega
 add-at : tie.Need-add-at Inv-loop μ-loop
 add-at c = let less = c .skip .ensures .1 (c .before .loop-test .taken) in omega arith
 
+has-index-requires : tie.Need-has-index-requires Inv-loop μ-loop
+has-index-requires c κs = let less = c .skip .ensures .1 (c .before .loop-test .taken) in search needs
+
 has-sub-requires : tie.Need-has-sub-requires Inv-loop μ-loop
 has-sub-requires c κs = let s = c .before in let less = s .skip .ensures .1 (s .before .loop-test .taken) in search needs
 
@@ -86,7 +89,7 @@ lookup-from-spec =
     (λ c κs. search needs)
     mul-at
     add-at
-    (λ c κs. search needs)
+    has-index-requires
     has-sub-requires
     (λ c κs. search needs)
     returns

@@ -1,35 +1,20 @@
--- Its fields are those of the entry at the place.
-use Rattle.protocol.specs.DictionaryImage.{entryAt}
+-- The entry in its twelve bytes.
+use Prim.Native.Nat.{_+_, _-_}
+use native.Mathlib.Omega.{arith}
+use mathlib.Core.Path.{_≡_, ap, _∙_}
+use lib.ListN.{take, drop}
+use Rattle.entries.specs.Reading.{entryIn}
+use Rattle.entries.proofs.Reading.{entry-there, entry-part}
 use borrow.Author.Needs.{needs}
 use Rattle.soundness.proofs.entry_in.Statement.{statement}
 use Rattle.soundness.proofs.entry_in.Tie as tie
 
 returns : tie.Need-returns
-unfolding entryAt
 returns c =
-    let b = c .before .before .before in
-    rw (
-      b .before .before .u16-in .ensures,
-      b .before .byte-in .ensures,
-      b .byte-in2 .ensures,
-      c .before .before .u32-in .ensures,
-      c .before .u16-in2 .ensures,
-      c .u16-in3 .ensures,
-    )
+    let a = c .before .before .before .args in
+    let image = a .image .now in
+    let e : a .at + 12 - a .at ≡ 12 = omega arith in
+    c .entry-in .ensures ∙ ap (λ n. entryIn (a .at) (take n (drop (a .at) image))) e ∙ entry-part (a .at) (drop (a .at) image) ∙ entry-there image (a .at)
 
 pub entry-in-spec : {M : Type 1} → statement M
-entry-in-spec =
-    tie.close
-    (tie.spec
-    (λ c κs. search needs)
-    (λ c. search needs)
-    (λ c κs. search needs)
-    (λ c. search needs)
-    (λ c κs. search needs)
-    (λ c. search needs)
-    (λ c κs. search needs)
-    (λ c. search needs)
-    (λ c κs. search needs)
-    (λ c. search needs)
-    (λ c κs. search needs)
-    returns)
+entry-in-spec = tie.close (tie.spec (λ c. search needs) (λ c. search needs) (λ c. search needs) (λ c. search needs) (λ c κs. search needs) returns)
