@@ -6,27 +6,28 @@ mod verdict;
 
 use crate::exercise::Words;
 use crate::sheet::Sheet;
+use input::INPUT;
+use input::Window;
 use marking::Exercise;
 use script::ANSWER;
 use script::IMAGE;
-use script::INPUT;
 use script::LENT_AREA;
-use script::Place;
+use script::Lent;
 use script::Played;
-use script::input;
 
-// How far a run is, and the sheet so far.
+// How far a run is, what is lent, and the sheet so far.
 struct Run {
-    place: Place,
+    window: Window,
+    lent: Lent,
     sheet: Sheet,
 }
 
-// The sheet after an item that is known.
+// The sheet after an item that is known, with what was lent before it.
 fn step(
     s: Sheet,
     e: Exercise,
     item: &[u8],
-    place: Place,
+    lent: Lent,
     done: Played,
     answer: &[u8; ANSWER],
 ) -> Sheet {
@@ -36,7 +37,6 @@ fn step(
     if !done.call {
         return sheet::lend_step(s, item);
     }
-    let lent = place.lent;
     let row = lent.table;
     sheet::call_step(s, e, item, row, done, answer)
 }
@@ -49,23 +49,26 @@ fn turn(
     e: Exercise,
     run: Run,
 ) -> Run {
-    let place = run.place;
+    let window = run.window;
+    let lent = run.lent;
     let sheet = run.sheet;
-    let bytes = input::unplayed(input, place);
+    let bytes = input::unplayed(input, window);
     let n = items::length_of(bytes);
     if bytes.len() < n {
         return Run {
-            place: input::refilled(input, place),
+            window: input::refilled(input, window),
+            lent: lent,
             sheet: sheet,
         };
     }
-    let lent = place.lent;
     let item = octets::part(bytes, 0, n);
     let mut answer = [0; ANSWER];
     let done = script::play(item, lent, area, image, &mut answer);
-    let sheet = step(sheet, e, item, place, done, &answer);
+    let sheet = step(sheet, e, item, lent, done, &answer);
+    let lent = done.lent;
     Run {
-        place: script::passed(place, n, done),
+        window: input::passed(window, n, done.known),
+        lent: lent,
         sheet: sheet,
     }
 }
@@ -78,13 +81,14 @@ fn played(
     e: Exercise,
 ) -> Run {
     let mut run = Run {
-        place: script::begun(),
+        window: input::begun(),
+        lent: script::begun(),
         sheet: sheet::blank(),
     };
     let mut turns = u64::MAX;
     while turns > 0 {
         run = turn(input, area, image, e, run);
-        if !run.place.going {
+        if !run.window.going {
             return run;
         }
         turns -= 1;
@@ -94,20 +98,20 @@ fn played(
 
 // The end of the sheet, with how the recording ends: whole, in the middle of an item, or with one that is unknown.
 fn end(input: &[u8; INPUT], e: Exercise, run: Run) {
-    let place = run.place;
+    let window = run.window;
     let sheet = run.sheet;
-    let bytes = input::unplayed(input, place);
+    let bytes = input::unplayed(input, window);
     if bytes.len() == 0 {
         return verdict::say_end(sheet, e, b"", 0);
     }
     if bytes.len() < items::length_of(bytes) {
-        return verdict::say_end(sheet, e, b"is cut short in the item at byte ", place.at);
+        return verdict::say_end(sheet, e, b"is cut short in the item at byte ", window.at);
     }
     verdict::say_end(
         sheet,
         e,
         b"cannot be read on: unknown item at byte ",
-        place.at,
+        window.at,
     );
 }
 

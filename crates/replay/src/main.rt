@@ -1,13 +1,13 @@
 // Plays a script of calls from standard input on the server and writes what they leave as a transcript: oracle/REPLAY.md has both formats.
 mod transcript;
 
+use input::INPUT;
+use input::Window;
 use script::ANSWER;
 use script::IMAGE;
-use script::INPUT;
 use script::LENT_AREA;
-use script::Place;
+use script::Lent;
 use script::Played;
-use script::input;
 ghost use Prim.Native.Nat.{_≤_};
 
 // The output's buffer, and the most bytes that a call adds to the transcript.
@@ -15,9 +15,10 @@ const OUTPUT: usize = 65536;
 
 const ROOM: usize = 1940;
 
-// How far a run is, and how many bytes of the output buffer are not written yet.
+// How far a run is, what is lent, and how many bytes of the output buffer are not written yet.
 struct Run {
-    place: Place,
+    window: Window,
+    lent: Lent,
     out: usize,
 }
 
@@ -25,19 +26,17 @@ struct Run {
 fn flushed(out: &[u8], run: Run) -> Run
     ensures { λ r. ⌜ r .out ≤ 65536 ⌝ }
 {
-    let mut place = run.place;
-    if io::write_all(libc::STDOUT_FILENO, octets::part(out, 0, run.out)) {
-        return Run {
-            place: place,
-            out: 0,
-        };
+    let mut window = run.window;
+    let lent = run.lent;
+    if !io::write_all(libc::STDOUT_FILENO, octets::part(out, 0, run.out)) {
+        let text = b"replay: the transcript cannot be written\n";
+        io::write_all(libc::STDERR_FILENO, text);
+        window.start = window.end;
+        window.going = false;
     }
-    let text = b"replay: the transcript cannot be written\n";
-    io::write_all(libc::STDERR_FILENO, text);
-    place.start = place.end;
-    place.going = false;
     Run {
-        place: place,
+        window: window,
+        lent: lent,
         out: 0,
     }
 }
@@ -87,22 +86,25 @@ fn turn(
     if OUTPUT - run.out < ROOM {
         return flushed(out, run);
     }
-    let place = run.place;
-    let bytes = input::unplayed(input, place);
+    let window = run.window;
+    let lent = run.lent;
+    let bytes = input::unplayed(input, window);
     let n = items::length_of(bytes);
     if bytes.len() < n {
         return Run {
-            place: input::refilled(input, place),
+            window: input::refilled(input, window),
+            lent: lent,
             out: run.out,
         };
     }
-    let lent = place.lent;
     let item = octets::part(bytes, 0, n);
     let mut answer = [0; ANSWER];
     let done = script::play(item, lent, area, image, &mut answer);
     let put = put(done, &answer, area, image, out, run.out);
+    let lent = done.lent;
     Run {
-        place: script::passed(place, n, done),
+        window: input::passed(window, n, done.known),
+        lent: lent,
         out: run.out + put,
     }
 }
@@ -115,13 +117,14 @@ fn played(
     out: &mut [u8; OUTPUT],
 ) -> Run {
     let mut run = Run {
-        place: script::begun(),
+        window: input::begun(),
+        lent: script::begun(),
         out: 0,
     };
     let mut turns = u64::MAX;
     while turns > 0 {
         run = turn(input, area, image, out, run);
-        if !run.place.going {
+        if !run.window.going {
             return run;
         }
         turns -= 1;
@@ -132,10 +135,10 @@ fn played(
 // Writes the end of the transcript. What is not played then begins with an item that is cut short or unknown.
 fn end(out: &[u8; OUTPUT], ended: Run) {
     let run = flushed(out, ended);
-    let p = run.place;
-    if p.start < p.end {
+    let w = run.window;
+    if w.start < w.end {
         io::write_all(libc::STDERR_FILENO, b"replay: item at byte ");
-        io::print_decimal(libc::STDERR_FILENO, p.at);
+        io::print_decimal(libc::STDERR_FILENO, w.at);
         io::write_all(libc::STDERR_FILENO, b" is cut short or unknown\n");
     }
 }

@@ -7,7 +7,7 @@ use Rattle.picks.specs.Pick.{pick}
 use Rattle.octets.specs.Octets.{splice}
 use Rattle.protocol.specs.declared.Connection.{Connection}
 use Rattle.protocol.specs.Coding.{Answer}
-use Rattle.protocol.specs.ConnectionTable.{fresh}
+use Rattle.protocol.specs.ConnectionTable.{fresh, emptyTable}
 use Rattle.protocol.specs.Calls.{Called}
 use Rattle.protocol.specs.Request.{requestOf}
 use Rattle.protocol.specs.Tick.{tickOf}
@@ -18,6 +18,10 @@ use Rattle.script.specs.declared.Played.{Played}
 use Rattle.script.specs.declared.told.Told.{Told}
 use Rattle.items.specs.Items.{byKind, clientIn, clockIn, requestIn, isImage, imageIn, areaBytes, areLengths}
 use Rattle.script.specs.Outcomes.{only, requestSays, tickSays, querySays}
+
+-- "At the start the table is empty (area numbers 0 to 7 in order), the area 65,536 zeros, the image `00 00`, and the answer buffer has 1,468 bytes."
+abbrev pub atStart : Lent
+atStart = record { answer = 1468; area = 65536; records = 8; image = 2; table = emptyTable }
 
 -- what an item leaves: what it says, and the three buffers
 pub record Left : Type 0 where

@@ -1,5 +1,4 @@
-// Scripts of calls, which are also the bench's recordings: oracle/REPLAY.md has the format. What the items lend, the calls on what is lent, and the input that they are read from.
-pub mod input;
+// Scripts of calls, which are also the bench's recordings: oracle/REPLAY.md has the format. What the items lend, and the calls on what is lent.
 pub mod told;
 
 use protocol::Connection;
@@ -7,13 +6,10 @@ use told::Told;
 ghost use mathlib.Core.Path.{_≡_};
 ghost use Prim.Native.Nat.{_≤_, min};
 ghost use lib.ListN.{length};
-ghost use Rattle.script.specs.Playing.{left, lends, unknown, calls, imageLent, imageStored, tableLent, filled, lengthsLent, lentArea, blank, requestOn, tickOn, queryOn, requestPlayed, playOf};
-ghost use Rattle.script.specs.Places.{atStart, behind};
+ghost use Rattle.script.specs.Playing.{atStart, left, lends, unknown, calls, imageLent, imageStored, tableLent, filled, lengthsLent, lentArea, blank, requestOn, tickOn, queryOn, requestPlayed, playOf};
 
-// The buffers: an image, the input, the answer, and the area as far as it can be lent.
+// The buffers: an image, the answer, and the area as far as it can be lent.
 pub const IMAGE: usize = 131072;
-
-pub const INPUT: usize = 262144;
 
 pub const ANSWER: usize = 1600;
 
@@ -37,15 +33,6 @@ pub struct Lent {
     pub records: u8,
     pub image: usize,
     pub table: [Connection; 8],
-}
-
-// How far a run is. The input buffer's bytes from start to end are not played yet; the first of them is byte `at` of the input.
-pub struct Place {
-    pub start: usize,
-    pub end: usize,
-    pub at: u64,
-    pub going: bool,
-    pub lent: Lent,
 }
 
 // What an item leaves: whether it is one that is known, whether it is a call, what the call says, and what is lent after it.
@@ -309,37 +296,15 @@ pub fn play(
     }
 }
 
-// The place at which a run begins: the empty table, an area of 0 and an image with no entry.
-pub fn begun() -> Place
+// What is lent at the start: the empty table, an area of 0 and an image with no entry.
+pub fn begun() -> Lent
     ensures { λ r. ⌜ r ≡ atStart ⌝ }
 {
-    let lent = Lent {
+    Lent {
         answer: 1468,
         area: AREA,
         records: RECORDS,
         image: 2,
         table: record::empty_table(),
-    };
-    Place {
-        start: 0,
-        end: 0,
-        at: 0,
-        going: true,
-        lent: lent,
     }
-}
-
-// The place after an item of n bytes, as far as it is known.
-pub fn passed(mut p: Place, n: usize, done: Played) -> Place
-    ensures { λ r. ⌜ r ≡ behind p n done ⌝ }
-{
-    if done.known {
-        let lent = done.lent;
-        p.start = std::num::wrapping_add_usize(p.start, n);
-        p.at = std::num::wrapping_add_u64(p.at, n as u64);
-        p.lent = lent;
-        return p;
-    }
-    p.going = false;
-    p
 }

@@ -4,15 +4,15 @@ use native.Mathlib.Omega.{arith}
 use Rattle.replay.proofs.turn.Statement.{statement}
 use Rattle.replay.proofs.turn.Tie as tie
 
-add-t14 : tie.Need-add-t14
-add-t14 c =
-    let d = c .before .before in
+add-t15 : tie.Need-add-t15
+add-t15 c =
+    let d = c .before .before .before in
     let e = d .before .before .before .before .before .before .before .before .before .before .before .before .before .before .before .before .before .before in
     omega (arith, d .put .ensures, e .if1 .left)
 
 returns-3 : tie.Need-returns-3
 returns-3 c =
-    let d = c .before .before in
+    let d = c .before .before .before in
     let e = d .before .before .before .before .before .before .before .before .before .before .before .before .before .before .before .before .before .before in
     omega (arith, d .put .ensures, e .if1 .left)
 
@@ -31,5 +31,5 @@ turn-spec =
     (λ c κs. search needs)
     (λ c κs. search needs)
     (λ c κs. search needs)
-    add-t14
+    add-t15
     returns-3)

@@ -4,11 +4,11 @@ use Prim.Native.Nat.{_-_, _≤_}
 use native.Mathlib.Numerals.{add-one}
 use mathlib.Core.List.{_++_}
 use lib.ListN.{length, take, drop}
-use Rattle.script.proofs.Buffers.{move-more}
+use Rattle.input.proofs.Buffer.{move-more}
 use borrow.Author.Needs.{needs}
 use native.Mathlib.Omega.{arith}
-use Rattle.script.proofs.input.move_to_front.Statement.{statement}
-use Rattle.script.proofs.input.move_to_front.Tie as tie
+use Rattle.input.proofs.move_to_front.Statement.{statement}
+use Rattle.input.proofs.move_to_front.Tie as tie
 
 abbrev Inv-loop : tie.InvT-loop
 Inv-loop input₀ start n i₀ input i = (i ≤ n) × (n ≤ length input₀ - start) × (length input ≡ length input₀) × (input ≡ take i (drop start input₀) ++ drop i input₀)

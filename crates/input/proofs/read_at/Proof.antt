@@ -1,9 +1,9 @@
 -- The bytes before n are kept.
-use Rattle.script.proofs.Buffers.{front-kept}
+use Rattle.input.proofs.Buffer.{front-kept}
 use borrow.Author.Needs.{needs}
 use native.Mathlib.Omega.{arith}
-use Rattle.script.proofs.input.read_at.Statement.{statement}
-use Rattle.script.proofs.input.read_at.Tie as tie
+use Rattle.input.proofs.read_at.Statement.{statement}
+use Rattle.input.proofs.read_at.Tie as tie
 
 returns : tie.Need-returns
 returns c =

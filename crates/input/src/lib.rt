@@ -1,11 +1,32 @@
 // The input that a script is read from: a buffer of which a part is not played yet.
-use crate::INPUT;
-use crate::Place;
 ghost use mathlib.Core.Path.{_≡_};
 ghost use mathlib.Core.List.{_++_};
 ghost use Prim.Native.Nat.{_+_, _-_, _≤_};
 ghost use lib.ListN.{length, take, drop};
-ghost use Rattle.script.specs.Places.{unplayedOf, Read, refilledBytes, refilledPlace};
+ghost use Rattle.input.specs.Runs.{atStart, unplayedOf, behind, Read, refilledBytes, refilledWindow};
+
+// The buffer's length.
+pub const INPUT: usize = 262144;
+
+// How far a run is. The buffer's bytes from start to end are not played yet; the first of them is byte `at` of the input.
+pub struct Window {
+    pub start: usize,
+    pub end: usize,
+    pub at: u64,
+    pub going: bool,
+}
+
+// Where a run begins: nothing is read yet.
+pub fn begun() -> Window
+    ensures { λ r. ⌜ r ≡ atStart ⌝ }
+{
+    Window {
+        start: 0,
+        end: 0,
+        at: 0,
+        going: true,
+    }
+}
 
 // How many bytes there are from a place to another; none where that is before it.
 fn between(start: usize, end: usize) -> usize
@@ -15,10 +36,23 @@ fn between(start: usize, end: usize) -> usize
 }
 
 // What is not played yet, as far as it is read.
-pub fn unplayed(input: &[u8; INPUT], p: Place) -> &[u8]
-    ensures { λ r. ⌜ now r ≡ unplayedOf (now (input .entry)) p ⌝ }
+pub fn unplayed(input: &[u8; INPUT], w: Window) -> &[u8]
+    ensures { λ r. ⌜ now r ≡ unplayedOf (now (input .entry)) w ⌝ }
 {
-    octets::part(input, p.start, between(p.start, p.end))
+    octets::part(input, w.start, between(w.start, w.end))
+}
+
+// Behind an item of n bytes; one that is not known ends the run where it begins.
+pub fn passed(mut w: Window, n: usize, known: bool) -> Window
+    ensures { λ r. ⌜ r ≡ behind w n known ⌝ }
+{
+    if known {
+        w.start = std::num::wrapping_add_usize(w.start, n);
+        w.at = std::num::wrapping_add_u64(w.at, n as u64);
+        return w;
+    }
+    w.going = false;
+    w
 }
 
 // Reads once into the buffer from n on, and answers how many bytes came: none at the end of the input, or where it cannot be read.
@@ -44,14 +78,14 @@ fn move_to_front(input: &mut [u8], start: usize, n: usize)
 }
 
 // Moves what is not played yet to the front of the input buffer and reads once behind it. The run goes on if the read got anything.
-pub fn refilled(input: &mut [u8; INPUT], mut p: Place) -> Place
-    ensures { λ r. ⌜ ((f : Read) × (now (input .exit) ≡ refilledBytes f (now (input .entry)) p) × (r ≡ refilledPlace f (now (input .entry)) p)) ⌝ }
+pub fn refilled(input: &mut [u8; INPUT], mut w: Window) -> Window
+    ensures { λ r. ⌜ ((f : Read) × (now (input .exit) ≡ refilledBytes f (now (input .entry)) w) × (r ≡ refilledWindow f (now (input .entry)) w)) ⌝ }
 {
-    let n = unplayed(input, p).len();
-    move_to_front(input, p.start, n);
+    let n = unplayed(input, w).len();
+    move_to_front(input, w.start, n);
     let got = read_at(input, n);
-    p.start = 0;
-    p.end = n + got;
-    p.going = 0 < got;
-    p
+    w.start = 0;
+    w.end = n + got;
+    w.going = 0 < got;
+    w
 }
