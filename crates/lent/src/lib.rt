@@ -97,7 +97,7 @@ fn better(best: Due, c: Connection, i: usize, clock: u64) -> Due
 {
     match best {
         Due::Nobody => {
-            if connection::is_due(c, clock) {
+            if transfers::is_due(c, clock) {
                 return Due::At(i);
             }
             Due::Nobody
@@ -173,7 +173,7 @@ pub fn tick<'t, 'a, 'b>(
 fn sooner(best: Deadline, c: Connection) -> Deadline
     ensures { λ r. ⌜ r ≡ earlier best (deadlineOf c) ⌝ }
 {
-    connection::earlier(best, connection::deadline_of(c))
+    transfers::earlier(best, transfers::deadline_of(c))
 }
 
 // The earliest deadline of a lent table of any length.

@@ -194,9 +194,9 @@ fn state_sound(t: &[u8; 320], i: usize) -> bool
     }
     let transfer = transfer_at(t, i);
     if state == 3 {
-        return connection::sound_upload(transfer);
+        return transfers::sound_upload(transfer);
     }
-    connection::sound_download(transfer)
+    transfers::sound_download(transfer)
 }
 
 // Sequence numbers at most 63, and a sound transfer.
@@ -336,7 +336,7 @@ pub fn next_deadline(t: &[u8; 320]) -> Deadline
     let mut i = 0;
     while i < 8 {
         if used_at(t, i) {
-            d = connection::earlier(d, transfer_time(t, i));
+            d = transfers::earlier(d, transfer_time(t, i));
         }
         i += 1;
     }
@@ -348,7 +348,7 @@ fn quiet_at(t: &[u8; 320], i: usize, clock: u64) -> bool
     requires { ⌜ i < 8 ⌝ }
     ensures { λ r. ⌜ r ≡ isQuiet clock (at i (now (t .entry))) ⌝ }
 {
-    let due = connection::is_past(deadline_at(t, i), clock);
+    let due = transfers::is_past(deadline_at(t, i), clock);
     let gone = used_at(t, i) & (byte(t, i, 12) == 0);
     !due & !gone
 }

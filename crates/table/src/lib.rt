@@ -35,7 +35,7 @@ pub fn first_due(t: [Connection; 8], clock: u64) -> usize
     let mut i = 0;
     while i < 8 {
         let c = t[i];
-        if connection::is_due(c, clock) {
+        if transfers::is_due(c, clock) {
             return i;
         }
         i += 1;
@@ -51,7 +51,7 @@ pub fn next_deadline(t: [Connection; 8]) -> Deadline
     let mut i = 0;
     while i < 8 {
         let c = t[i];
-        d = connection::earlier(d, connection::deadline_of(c));
+        d = transfers::earlier(d, transfers::deadline_of(c));
         i += 1;
     }
     d
@@ -128,7 +128,7 @@ fn records_sound(t: [Connection; 8]) -> bool
     let mut i = 0;
     while i < 8 {
         let c = t[i];
-        if connection::sound_record(c) {
+        if transfers::sound_record(c) {
             i += 1;
         } else {
             return false;

@@ -2,8 +2,8 @@
 use Rattle.protocol.specs.Constants.{PIECE, SHARE}
 use Rattle.protocol.specs.ConnectionTable.{soundUpload}
 use borrow.Author.Needs.{needs}
-use Rattle.connection.proofs.sound_upload.Statement.{statement}
-use Rattle.connection.proofs.sound_upload.Tie as tie
+use Rattle.transfers.proofs.sound_upload.Statement.{statement}
+use Rattle.transfers.proofs.sound_upload.Tie as tie
 
 returns : tie.Need-returns
 unfolding soundUpload PIECE SHARE

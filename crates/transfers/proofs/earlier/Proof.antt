@@ -2,8 +2,8 @@
 use Rattle.protocol.specs.declared.Deadline.the-variants.{At}
 use mathlib.Core.Path.{ap}
 use borrow.Author.Needs.{needs}
-use Rattle.connection.proofs.earlier.Statement.{statement}
-use Rattle.connection.proofs.earlier.Tie as tie
+use Rattle.transfers.proofs.earlier.Statement.{statement}
+use Rattle.transfers.proofs.earlier.Tie as tie
 
 returns-2 : tie.Need-returns-2
 returns-2 c = rw (c .before .before .before .a .given .1, c .enum-told2 .given .1)

@@ -1,8 +1,8 @@
 -- Three tests.
 use Rattle.protocol.specs.ConnectionTable.{soundRecord}
 use borrow.Author.Needs.{needs}
-use Rattle.connection.proofs.sound_record.Statement.{statement}
-use Rattle.connection.proofs.sound_record.Tie as tie
+use Rattle.transfers.proofs.sound_record.Statement.{statement}
+use Rattle.transfers.proofs.sound_record.Tie as tie
 
 returns : tie.Need-returns
 unfolding soundRecord

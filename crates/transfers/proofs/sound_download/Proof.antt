@@ -2,8 +2,8 @@
 use Rattle.protocol.specs.Constants.{SHARE, FIRST-MAX}
 use Rattle.protocol.specs.ConnectionTable.{soundDownload}
 use borrow.Author.Needs.{needs}
-use Rattle.connection.proofs.sound_download.Statement.{statement}
-use Rattle.connection.proofs.sound_download.Tie as tie
+use Rattle.transfers.proofs.sound_download.Statement.{statement}
+use Rattle.transfers.proofs.sound_download.Tie as tie
 
 returns : tie.Need-returns
 unfolding soundDownload SHARE FIRST-MAX

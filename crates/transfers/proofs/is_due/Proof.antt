@@ -1,7 +1,7 @@
 -- Two tests.
 use borrow.Author.Needs.{needs}
-use Rattle.connection.proofs.is_due.Statement.{statement}
-use Rattle.connection.proofs.is_due.Tie as tie
+use Rattle.transfers.proofs.is_due.Statement.{statement}
+use Rattle.transfers.proofs.is_due.Tie as tie
 
 returns : tie.Need-returns
 returns c = rw (c .before .is-past .ensures, c .before .before .transfer-deadline .ensures)

@@ -2,8 +2,8 @@
 use borrow.Author.Tests.{lt-ltb, le-ltb}
 use mathlib.Core.Path.{refl}
 use Rattle.picks.proofs.Picks.{pick-t, pick-f}
-use Rattle.connection.proofs.smaller.Statement.{statement}
-use Rattle.connection.proofs.smaller.Tie as tie
+use Rattle.transfers.proofs.smaller.Statement.{statement}
+use Rattle.transfers.proofs.smaller.Tie as tie
 
 returns : tie.Need-returns
 returns c = pick-t _ _ _ _ (lt-ltb _ _ (c .if1 .taken)) refl

@@ -1,7 +1,7 @@
 -- One case for each deadline.
 use borrow.Author.Needs.{needs}
-use Rattle.connection.proofs.is_past.Statement.{statement}
-use Rattle.connection.proofs.is_past.Tie as tie
+use Rattle.transfers.proofs.is_past.Statement.{statement}
+use Rattle.transfers.proofs.is_past.Tie as tie
 
 returns-2 : tie.Need-returns-2
 returns-2 c = rw (c .before .d .given .1)

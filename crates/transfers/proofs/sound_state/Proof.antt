@@ -1,7 +1,7 @@
 -- One case for each state.
 use borrow.Author.Needs.{needs}
-use Rattle.connection.proofs.sound_state.Statement.{statement}
-use Rattle.connection.proofs.sound_state.Tie as tie
+use Rattle.transfers.proofs.sound_state.Statement.{statement}
+use Rattle.transfers.proofs.sound_state.Tie as tie
 
 returns-4 : tie.Need-returns-4
 returns-4 c = rw (c .before .before .s .given .1) (c .sound-download .ensures)

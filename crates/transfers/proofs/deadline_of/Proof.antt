@@ -2,8 +2,8 @@
 use mathlib.Core.Path.{refl}
 use Rattle.picks.proofs.Picks.{pick-t, pick-f}
 use borrow.Author.Needs.{needs}
-use Rattle.connection.proofs.deadline_of.Statement.{statement}
-use Rattle.connection.proofs.deadline_of.Tie as tie
+use Rattle.transfers.proofs.deadline_of.Statement.{statement}
+use Rattle.transfers.proofs.deadline_of.Tie as tie
 
 returns : tie.Need-returns
 returns c = pick-t _ _ _ _ (c .before .if1 .taken) (c .transfer-deadline .ensures)

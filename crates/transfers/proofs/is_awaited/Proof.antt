@@ -1,8 +1,8 @@
 -- One choice.
 use Rattle.picks.proofs.Picks.{pick-t, pick-f}
 use borrow.Author.Needs.{needs}
-use Rattle.connection.proofs.is_awaited.Statement.{statement}
-use Rattle.connection.proofs.is_awaited.Tie as tie
+use Rattle.transfers.proofs.is_awaited.Statement.{statement}
+use Rattle.transfers.proofs.is_awaited.Tie as tie
 
 returns : tie.Need-returns
 returns c = pick-t _ _ _ _ (c .before .if1 .taken) (c .has-deadline .ensures)
