@@ -1,4 +1,6 @@
 // Bytes in a lent slice: reads, stores, parts and copies that ask nothing of the caller. A byte past the end reads as 0, and what would be stored past the end is dropped.
+#![tactic(auto)]
+
 ghost use Rattle.std.specs.Prelude.{◌≡◌, ◌+◌, ◌-◌, ◌≤◌, min, ◌++◌, length, get_or, take, drop, set};
 ghost use Rattle.octets.specs.Octets.{le, le_bytes, splice};
 
