@@ -1,1 +1,3 @@
+#![tactic(auto)]
+
 // Clients, records and tables as bytes: the layout, what fits it, and the round trip (specs, proofs).

@@ -1,7 +1,8 @@
 // The types that definitions and code share. Types and variants have the Rust's names; a field is one word, with the Rust's name beside it where it differs.
+#![tactic(auto)]
 
 // Receive marks (rcon) of the sequence header, 0 to 3.
-#[derive(Drop)]
+#[derive(Clone, Copy)]
 pub enum ReceiveConnState {
     NoConnection,
     Initialization,
@@ -10,7 +11,7 @@ pub enum ReceiveConnState {
 }
 
 // Send marks (scon) of the sequence header, 0 to 3.
-#[derive(Drop)]
+#[derive(Clone, Copy)]
 pub enum SendConnState {
     NoConnection,
     Initialization,
@@ -19,7 +20,7 @@ pub enum SendConnState {
 }
 
 // The four-byte header of the sequence layer.
-#[derive(Drop)]
+#[derive(Clone, Copy)]
 pub struct SequenceLayerHeader {
     pub receive: u8, // receive_sequence_number
     pub rcon: ReceiveConnState, // receive_con
@@ -28,7 +29,7 @@ pub struct SequenceLayerHeader {
 }
 
 // The known command ids.
-#[derive(Drop)]
+#[derive(Clone, Copy)]
 pub enum CommandId {
     Nil,
     WriteByIndex,
@@ -46,7 +47,7 @@ pub enum CommandId {
 }
 
 // How a command belongs to a transfer, 0 to 3.
-#[derive(Drop)]
+#[derive(Clone, Copy)]
 pub enum Segmentation {
     Expedited,
     Initiate,
@@ -55,7 +56,7 @@ pub enum Segmentation {
 }
 
 // The fixed header of the command layer.
-#[derive(Drop)]
+#[derive(Clone, Copy)]
 pub struct CommandLayerHeader {
     pub transaction: u8, // transaction_id
     pub response: bool, // is_response
@@ -66,42 +67,42 @@ pub struct CommandLayerHeader {
 }
 
 // The total size that an Initiate carries: the Rust's Option<u32>.
-#[derive(Drop)]
+#[derive(Clone, Copy)]
 pub enum DataSize {
     NoSize,
     Size(u32),
 }
 
 // A command but for its payload, which stands beside it as a part of the bytes that it was read from.
-#[derive(Drop)]
+#[derive(Clone, Copy)]
 pub struct SdoCommand {
     pub header: CommandLayerHeader,
     pub total: DataSize, // data_size
 }
 
 // What coding into a buffer answers: how many bytes were written, or that the buffer is too short.
-#[derive(Drop)]
+#[derive(Clone, Copy)]
 pub enum Written {
     Bytes(usize),
     BufferTooShort,
 }
 
 // What decoding a sequence header answers.
-#[derive(Drop)]
+#[derive(Clone, Copy)]
 pub enum HeaderRead {
     Header(SequenceLayerHeader),
     BufferTooShort,
 }
 
 // What a byte is as a command id.
-#[derive(Drop)]
+#[derive(Clone, Copy)]
 pub enum IdRead {
     Id(CommandId),
     InvalidEnumValue,
 }
 
 // What decoding a command answers: BufferTooShort where the header is cut short, Undecodable for an unknown id or a payload cut short.
-#[derive(Drop)]
+#[derive(Clone, Copy)]
 pub enum CommandRead {
     Command(SdoCommand),
     BufferTooShort,
@@ -109,21 +110,21 @@ pub enum CommandRead {
 }
 
 // A client. A MAC address and an IP address are numbers, the first byte on the wire the most significant.
-#[derive(Drop)]
+#[derive(Clone, Copy)]
 pub enum SdoClientInfo {
     Asnd { node: u8, mac: u64 }, // source_node_id, source_mac
     Udp { ip: u32, port: u16 }, // source_ip, source_port
 }
 
 // The time at which a transfer is due: the Rust's Option<u64>.
-#[derive(Drop)]
+#[derive(Clone, Copy)]
 pub enum Deadline {
     NoDeadline,
     At(u64),
 }
 
 // A transfer, held in the state that runs it. Its bytes are in the client's share of the area.
-#[derive(Drop)]
+#[derive(Clone, Copy)]
 pub struct SdoTransferState {
     pub transaction: u8, // transaction_id
     pub total: u32, // total_size
@@ -135,7 +136,7 @@ pub struct SdoTransferState {
     pub stored: bool, // last_sent_segment is there: the bytes before offset hold it
 }
 
-#[derive(Drop)]
+#[derive(Clone, Copy)]
 pub enum SdoServerState {
     Closed,
     Opening,
@@ -145,7 +146,7 @@ pub enum SdoServerState {
 }
 
 // A record of the connection table: the Rust's SdoSequenceHandler with its place in the map.
-#[derive(Drop)]
+#[derive(Clone, Copy)]
 pub struct Connection {
     pub used: bool,
     pub client: SdoClientInfo, // client_info
@@ -156,7 +157,7 @@ pub struct Connection {
 }
 
 // An entry of the dictionary image.
-#[derive(Drop)]
+#[derive(Clone, Copy)]
 pub struct Entry {
     pub place: usize, // where its twelve bytes begin
     pub index: u16,
@@ -168,7 +169,7 @@ pub struct Entry {
 }
 
 // What looking an object up finds.
-#[derive(Drop)]
+#[derive(Clone, Copy)]
 pub enum Lookup {
     NoObject,
     NoSubIndex,
@@ -176,14 +177,14 @@ pub enum Lookup {
 }
 
 // What a read of a lookup is, and what a write would be: the entry, or an abort code.
-#[derive(Drop)]
+#[derive(Clone, Copy)]
 pub enum Access {
     Denied(u32),
     Granted(Entry),
 }
 
 // Where an answer's payload stands: nowhere, a part of the image, a part of the client's share of the area (place and length), or numbers that the answer's writer lays out.
-#[derive(Drop)]
+#[derive(Clone, Copy)]
 pub enum Body {
     Nothing,
     Image(u32, u16),
@@ -193,7 +194,7 @@ pub enum Body {
 }
 
 // What acting on a command leaves of the record, and the answer.
-#[derive(Drop)]
+#[derive(Clone, Copy)]
 pub struct Action {
     pub connection: Connection,
     pub command: SdoCommand,
@@ -201,21 +202,21 @@ pub struct Action {
 }
 
 // What an upload's piece is: its command, and where its payload stands.
-#[derive(Drop)]
+#[derive(Clone, Copy)]
 pub struct Piece {
     pub command: SdoCommand,
     pub body: Body,
 }
 
 // What the sequence step leaves: the record with the answer's header so far, or the record of a frame that does not fit.
-#[derive(Drop)]
+#[derive(Clone, Copy)]
 pub enum Step {
     Stepped(Connection, SequenceLayerHeader),
     Misfit(Connection),
 }
 
 // An answer: its header, its command, and where its payload stands. The client it goes to stands in the record.
-#[derive(Drop)]
+#[derive(Clone, Copy)]
 pub struct SdoResponseData {
     pub header: SequenceLayerHeader, // seq_header
     pub command: SdoCommand,
@@ -223,14 +224,14 @@ pub struct SdoResponseData {
 }
 
 // What stands before the sequence step: a resend of the stored piece, or nothing.
-#[derive(Drop)]
+#[derive(Clone, Copy)]
 pub enum Resend {
     Resends(SdoResponseData),
     GoesOn,
 }
 
 // Why a call is refused: document 01's numbers 1 to 9 in order.
-#[derive(Drop)]
+#[derive(Clone, Copy)]
 pub enum Refusal {
     Lent,
     Image,
@@ -244,28 +245,28 @@ pub enum Refusal {
 }
 
 // What a request leaves of a record, and what is said to it: an answer, or a refusal.
-#[derive(Drop)]
+#[derive(Clone, Copy)]
 pub enum Handled {
     Answered(Connection, SdoResponseData),
     Refused(Connection, Refusal),
 }
 
 // What a tick makes of a record that is due: nothing, or the record after it and the answer.
-#[derive(Drop)]
+#[derive(Clone, Copy)]
 pub enum RecordTicked {
     Nothing,
     Answered(Connection, SdoResponseData),
 }
 
 // What handle_request answers: a refusal, or the client and the answer's length.
-#[derive(Drop)]
+#[derive(Clone, Copy)]
 pub enum Outcome {
     Refused(Refusal),
     Answered(SdoClientInfo, usize),
 }
 
 // What tick answers: a refusal, nobody, or the client and the answer's length.
-#[derive(Drop)]
+#[derive(Clone, Copy)]
 pub enum Ticked {
     Refused(Refusal),
     Nothing,
@@ -273,7 +274,7 @@ pub enum Ticked {
 }
 
 // What next_action_time answers: a refusal, no deadline, or the earliest.
-#[derive(Drop)]
+#[derive(Clone, Copy)]
 pub enum NextAction {
     Refused(Refusal),
     Nothing,
@@ -281,21 +282,21 @@ pub enum NextAction {
 }
 
 // What the refusals' tests answer.
-#[derive(Drop)]
+#[derive(Clone, Copy)]
 pub enum Checked {
     Refused(Refusal),
     Accepted,
 }
 
 // What handle_request answers with the row of eight by value: the outcome, and the row after it.
-#[derive(Drop)]
+#[derive(Clone, Copy)]
 pub struct Requested {
     pub outcome: Outcome,
     pub table: [Connection; 8],
 }
 
 // What tick answers with the row of eight by value: the outcome, and the row after it.
-#[derive(Drop)]
+#[derive(Clone, Copy)]
 pub struct TickedRow {
     pub outcome: Ticked,
     pub table: [Connection; 8],
