@@ -3,7 +3,7 @@ use mathlib.Core.Path.{refl}
 use denote.Array.{Array}
 use denote.Struct.Laws as LL
 use denote.Enum.Laws as EL
-use Rattle.walks.proofs.Plain.{Plain, array, array_in, told}
+use Rattle.walks.proofs.Plain.{Plain, array, told}
 use Rattle.walks.proofs.Two.{Two}
 use Rattle.protocol.specs.contracts.Connection as Connection
 use Rattle.protocol.proofs.Connection.TheLaws as Connection'
@@ -28,10 +28,11 @@ use Rattle.protocol.proofs.Step.TheLaws as Step'
 
 abbrev pub conn : Plain Connection.the_row
 conn = record {
-  low = Connection'.lowers;
+  low = record { mir = (Connection'.lowers).mir; lowered = (Connection'.the_told).val; layout_is = (Connection'.lowers).layout_is; val_is = (Connection'.the_told).tells };
   lawful = λ M 𝓤 𝓛. LL.lawful Connection.the_type Connection'.the_laws 𝓛;
   makes = λ M 𝓤 𝓛. LL.makes Connection.the_type Connection'.the_plain 𝓛;
   still = λ k. refl;
+  copied = λ M 𝓤 𝓛. (Connection'.the_row_copy).copied M 𝓤 𝓛;
 }
 
 abbrev pub row : Plain (Array Connection.the_row 8)
@@ -43,6 +44,7 @@ client = record {
   lawful = λ M 𝓤 𝓛. EL.lawful SdoClientInfo.the_type SdoClientInfo'.the_laws 𝓛 tt;
   makes = λ M 𝓤 𝓛. EL.makes SdoClientInfo.the_type SdoClientInfo'.the_plain 𝓛;
   still = λ k. refl;
+  copied = λ M 𝓤 𝓛. (SdoClientInfo'.the_row_copy).copied M 𝓤 𝓛;
 }
 
 abbrev pub outcome : Plain Outcome.the_row
@@ -51,6 +53,7 @@ outcome = record {
   lawful = λ M 𝓤 𝓛. EL.lawful Outcome.the_type Outcome'.the_laws 𝓛 tt;
   makes = λ M 𝓤 𝓛. EL.makes Outcome.the_type Outcome'.the_plain 𝓛;
   still = λ k. refl;
+  copied = λ M 𝓤 𝓛. (Outcome'.the_row_copy).copied M 𝓤 𝓛;
 }
 
 abbrev pub ticked : Plain Ticked.the_row
@@ -59,6 +62,7 @@ ticked = record {
   lawful = λ M 𝓤 𝓛. EL.lawful Ticked.the_type Ticked'.the_laws 𝓛 tt;
   makes = λ M 𝓤 𝓛. EL.makes Ticked.the_type Ticked'.the_plain 𝓛;
   still = λ k. refl;
+  copied = λ M 𝓤 𝓛. (Ticked'.the_row_copy).copied M 𝓤 𝓛;
 }
 
 abbrev pub requested : Two outcome row Requested.the_row
@@ -70,7 +74,7 @@ requested = record {
   val_is = (Requested'.lowers).val_is;
   lawful = λ M 𝓤 𝓛. LL.lawful Requested.the_type Requested'.the_laws 𝓛;
   one_is = λ s v g. told outcome s.outcome _ (LL.owed Requested.the_type Requested'.the_laws s _ g).0;
-  two_is = λ s v g. told row s.table _ (array_in Connection.the_type 8 s.table _ (LL.owed Requested.the_type Requested'.the_laws s _ g).1.0);
+  two_is = λ s v g. told row s.table _ (LL.owed Requested.the_type Requested'.the_laws s _ g).1.0;
 }
 
 abbrev pub ticked_row : Two ticked row TickedRow.the_row
@@ -82,7 +86,7 @@ ticked_row = record {
   val_is = (TickedRow'.lowers).val_is;
   lawful = λ M 𝓤 𝓛. LL.lawful TickedRow.the_type TickedRow'.the_laws 𝓛;
   one_is = λ s v g. told ticked s.outcome _ (LL.owed TickedRow.the_type TickedRow'.the_laws s _ g).0;
-  two_is = λ s v g. told row s.table _ (array_in Connection.the_type 8 s.table _ (LL.owed TickedRow.the_type TickedRow'.the_laws s _ g).1.0);
+  two_is = λ s v g. told row s.table _ (LL.owed TickedRow.the_type TickedRow'.the_laws s _ g).1.0;
 }
 
 abbrev pub deadline : Plain Deadline.the_row
@@ -91,6 +95,7 @@ deadline = record {
   lawful = λ M 𝓤 𝓛. EL.lawful Deadline.the_type Deadline'.the_laws 𝓛 tt;
   makes = λ M 𝓤 𝓛. EL.makes Deadline.the_type Deadline'.the_plain 𝓛;
   still = λ k. refl;
+  copied = λ M 𝓤 𝓛. (Deadline'.the_row_copy).copied M 𝓤 𝓛;
 }
 
 abbrev pub header : Plain SequenceLayerHeader.the_row
@@ -99,6 +104,7 @@ header = record {
   lawful = λ M 𝓤 𝓛. LL.lawful SequenceLayerHeader.the_type SequenceLayerHeader'.the_laws 𝓛;
   makes = λ M 𝓤 𝓛. LL.makes SequenceLayerHeader.the_type SequenceLayerHeader'.the_plain 𝓛;
   still = λ k. refl;
+  copied = λ M 𝓤 𝓛. (SequenceLayerHeader'.the_row_copy).copied M 𝓤 𝓛;
 }
 
 abbrev pub next_action_lem : Plain NextAction.the_row
@@ -107,6 +113,7 @@ next_action_lem = record {
   lawful = λ M 𝓤 𝓛. EL.lawful NextAction.the_type NextAction'.the_laws 𝓛 tt;
   makes = λ M 𝓤 𝓛. EL.makes NextAction.the_type NextAction'.the_plain 𝓛;
   still = λ k. refl;
+  copied = λ M 𝓤 𝓛. (NextAction'.the_row_copy).copied M 𝓤 𝓛;
 }
 
 abbrev pub step : Plain Step.the_row
@@ -115,6 +122,7 @@ step = record {
   lawful = λ M 𝓤 𝓛. EL.lawful Step.the_type Step'.the_laws 𝓛 tt;
   makes = λ M 𝓤 𝓛. EL.makes Step.the_type Step'.the_plain 𝓛;
   still = λ k. refl;
+  copied = λ M 𝓤 𝓛. (Step'.the_row_copy).copied M 𝓤 𝓛;
 }
 
 -- what a call returns with its row, as one value
@@ -124,6 +132,7 @@ requested_whole = record {
   lawful = λ M 𝓤 𝓛. LL.lawful Requested.the_type Requested'.the_laws 𝓛;
   makes = λ M 𝓤 𝓛. LL.makes Requested.the_type Requested'.the_plain 𝓛;
   still = λ k. refl;
+  copied = λ M 𝓤 𝓛. (Requested'.the_row_copy).copied M 𝓤 𝓛;
 }
 
 abbrev pub ticked_row_whole : Plain TickedRow.the_row
@@ -132,4 +141,5 @@ ticked_row_whole = record {
   lawful = λ M 𝓤 𝓛. LL.lawful TickedRow.the_type TickedRow'.the_laws 𝓛;
   makes = λ M 𝓤 𝓛. LL.makes TickedRow.the_type TickedRow'.the_plain 𝓛;
   still = λ k. refl;
+  copied = λ M 𝓤 𝓛. (TickedRow'.the_row_copy).copied M 𝓤 𝓛;
 }

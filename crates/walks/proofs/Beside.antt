@@ -1,12 +1,12 @@
--- A call, within a walk, of a covered function of a plain value and of parameters that the caller was itself lent, and passes on for good: `fn g(x: T, ps..) -> S  ensures { λ r. ⌜ φ ⌝ }`, with no `requires`, at any list of parameters ps (`&mut [u8]`, `&[u8]`, plain values ..) and any φ of them at entry and at exit.
+-- A call, within a walk, of a covered function of a plain value and of parameters that the caller was itself lent, and passes on for good: `fn g(x: T, ps..) -> S  ensures { φ }`, with no `requires`, at any list of parameters ps (`&mut [u8]`, `&[u8]`, plain values ..) and any φ of them at entry and at exit.
 -- The callee is called at the caller's own lifetimes, shares and ghost names: no lifetime is made, nothing is opened, and nothing has to come back. What the callee says of the last values is what the caller says of them.
---     On               its contract.        calls-on     the call, as a step: what the parameters own is given for what says their last values, ws, and φ is known of them
+--     On               its contract.        calls_on     the call, as a step: what the parameters own is given for what says their last values, ws, and φ is known of them
 --     says_last        a parameter that is passed on so has at exit what the contract says of it, and no more.        goes_last    the law
 -- It says nothing of the crate, and can be copied as it stands. Assumes nothing.
 use Prim.Native.Nat.{ℕ}
 use mathlib.Core.List.{List, [], ◌∷◌}
 use seplogic.Ra.Ura.{Ura}
-use mir.Syntax.{Name, Place, Opd as Operand, Body, seq, call}
+use mir.Syntax.{Callee, Place, Opd as Operand, Body, seq, call}
 use mir.Val.{Val}
 use base.Logic.{ent, sep, emp, id⊢}
 use prog.Wp.{Env, Calls, Loops}
@@ -57,7 +57,7 @@ module _ (n : ℕ) (ps : List (Slot n)) (ks : Kepts ps) (T S : RattleType) where
       asks_on P g =
           qed 𝓛 (raw (toks 𝓛 n κs qs) ∷ ‵ (owns (types_at ps κs) a vss) ∷ []) ∵ nothing ! $ move ! (1 ∷ 2 ∷ 0 ∷ []) $ owned ! T (Is T) (P.makes M 𝓤 𝓛) x (vx ∷ []) g $ move ! (0 ∷ 2 ∷ []) $ fjoin ! $ move ! (1 ∷ 0 ∷ []) $ join ! $ frame ! $ done !
 
-module _ {M : Type 1} {𝓤 : Ura M} {𝓛 : Logic 𝓤} {K : Type 0} {Γ : List (Item 𝓤)} {E : Env 𝓤 𝓛.H} {C : Calls 𝓤 𝓛.H} {k : Name} {xs : List Operand} {Λ : Loops 𝓤 𝓛.H} {q : Post 𝓤 𝓛.H} {d : Place} where
+module _ {M : Type 1} {𝓤 : Ura M} {𝓛 : Logic 𝓤} {K : Type 0} {Γ : List (Item 𝓤)} {E : Env 𝓤 𝓛.H} {C : Calls 𝓤 𝓛.H} {k : Callee} {xs : List Operand} {Λ : Loops 𝓤 𝓛.H} {q : Post 𝓤 𝓛.H} {d : Place} where
   open 𝓛 use {H}
 
   pub calls_on : K → FmC 𝓤 H 𝓛.laws C → {rest : Body} (n : ℕ) (ps : List (Slot n)) (ks : Kepts ps) {T : RattleType} (P : Plain T) (S : RattleType) (φ : (κs : Lfts n) → T.Denot → Denots (types_at ps κs) → S.Denot → Outs κs ps ks → Type 0) → Triple 𝓤 (C k) (On n ps ks T S φ 𝓛)
@@ -67,7 +67,7 @@ module _ {M : Type 1} {𝓤 : Ura M} {𝓛 : Logic 𝓤} {K : Type 0} {Γ : List
   calls_on t fm n ps ks {T} P S φ known κs qs x vx gx a vss os go =
       use2 𝓛 (raw ((On n ps ks T S φ 𝓛).pre (at_on n ps ks T S φ 𝓛 κs qs x vx a vss))) (asks_on n ps ks T S φ 𝓛 κs qs x vx a vss P gx) $
       calls_at t fm (On n ps ks T S φ 𝓛) known (at_on n ps ks T S φ 𝓛 κs qs x vx a vss) (os _) (λ v.
-      use1 𝓛 (later (some (λ (r : S.Denot). (raw (toks 𝓛 n κs qs) ⊛ ‵ (S.own r (v ∷ [])))
+      use1 𝓛 (later (some (λ (r : S.Denot). (raw (toks 𝓛 n κs qs) ⊛ ‵ (S.own_val r (v ∷ [])))
       ⊛ some (λ (ws : Lasts (ended_on n ps ks T S) κs (x, a)). ‵ (lasts (ended_on n ps ks T S) κs (x, a) ws) ⊛ raw (fact 𝓤 (φ κs x a r (outs κs ps ks a ws.1))))))) (id⊢ 𝓤 _) $ await t tt $ pick t (λ r.
       split t $ move t (1 ∷ []) $ pick t (λ ws. split t $ move t (1 ∷ []) $ heard t (φ κs x a r (outs κs ps ks a ws.1)) (λ e. fsplit t $ drop t $
       -- [what says the last values; the tokens and the result; …]

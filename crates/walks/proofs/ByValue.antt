@@ -1,11 +1,11 @@
--- A call, within a walk, of a covered function of plain parameters whose contract says its result by a function f: `fn g(a: R, b: X) -> S  ensures { λ r. ⌜ r ≡ f a b ⌝ }`, with no `requires`.
+-- A call, within a walk, of a covered function of plain parameters whose contract says its result by a function f: `fn g(a: R, b: X) -> S  ensures { result ≡ f a b }`, with no `requires`.
 --     Value ps f       its contract, at parameters ps.        Value0, Value2, Value4      at none, two and four
 --     calls0, calls2, calls4       the call, as a step of a walk: the context stays as it is, and the result v is known to be a machine value of f a b
 -- It says nothing of the crate, and can be copied as it stands. Assumes nothing.
 use mathlib.Core.Path.{◌≡◌, subst}
 use mathlib.Core.List.{List, [], ◌∷◌}
 use seplogic.Ra.Ura.{Ura}
-use mir.Syntax.{Name, Place, Opd as Operand, Body, seq, call}
+use mir.Syntax.{Callee, Place, Opd as Operand, Body, seq, call}
 use mir.Val.{Val}
 use base.Logic.{ent, sep, emp, via, mono_l, emp∗, id⊢, ex_e, snd∗}
 use base.Fml.{ftrue}
@@ -41,7 +41,7 @@ module _ (ps : List (Slot 0)) (ks : Kepts ps) (S : RattleType) where
     said_v : (a : Denots (types_at ps tt)) (r : S.Denot) → ent 𝓤 (ensured 𝓛 ended_v clauses_v tt a tt r) (fact 𝓤 (r ≡ f a))
     said_v a r = ex_e 𝓤 _ (λ ws. snd∗ 𝓤 (sem 𝓛 (lasts ended_v tt a ws)) (fact 𝓤 (r ≡ f a)))
 
-module _ {M : Type 1} {𝓤 : Ura M} {𝓛 : Logic 𝓤} {K : Type 0} {Γ : List (Item 𝓤)} {E : Env 𝓤 𝓛.H} {C : Calls 𝓤 𝓛.H} {k : Name} {xs : List Operand} {Λ : Loops 𝓤 𝓛.H} {q : Post 𝓤 𝓛.H} {d : Place} where
+module _ {M : Type 1} {𝓤 : Ura M} {𝓛 : Logic 𝓤} {K : Type 0} {Γ : List (Item 𝓤)} {E : Env 𝓤 𝓛.H} {C : Calls 𝓤 𝓛.H} {k : Callee} {xs : List Operand} {Λ : Loops 𝓤 𝓛.H} {q : Post 𝓤 𝓛.H} {d : Place} where
   open 𝓛 use {H}
 
   pub calls_value : K → FmC 𝓤 H 𝓛.laws C → {rest : Body} (ps : List (Slot 0)) (ks : Kepts ps) (S : RattleType) (f : Denots (types_at ps tt) → S.Denot) → Triple 𝓤 (C k) (Value ps ks S f 𝓛)
@@ -67,7 +67,7 @@ module _ {M : Type 1} {𝓤 : Ura M} {𝓛 : Logic 𝓤} {K : Type 0} {Γ : List
 
       got : (v : Val) → Seq K 𝓛 (raw (c.post y v) ∷ Γ) (lands C Λ E d v rest q)
       got v =
-          use1 𝓛 (later (some (λ (r : S.Denot). (‵ ftrue ⊛ ‵ (S.own r (v ∷ []))) ⊛ raw (ensured 𝓛 (ended_v ps ks S) (clauses_v ps ks S f 𝓛) tt a tt r)))) (id⊢ 𝓤 _) $ await t tt $ pick t (λ r.
+          use1 𝓛 (later (some (λ (r : S.Denot). (‵ ftrue ⊛ ‵ (S.own_val r (v ∷ []))) ⊛ raw (ensured 𝓛 (ended_v ps ks S) (clauses_v ps ks S f 𝓛) tt a tt r)))) (id⊢ 𝓤 _) $ await t tt $ pick t (λ r.
           split t $ move t (1 ∷ []) $ use1 𝓛 (raw (fact 𝓤 (r ≡ f a))) (said_v ps ks S f 𝓛 a r) $ heard t (r ≡ f a) (λ e. split t $ drop t $
           peeks t S (Is S) (shows 𝓛 S) r (v ∷ []) (λ g. drop t $ go v (subst (λ (s : S.Denot). Is S s (v ∷ [])) e g))))
 
@@ -81,7 +81,7 @@ Value2 R X S f = Value (plain (λ _. R) ∷ plain (λ _. X) ∷ []) (yes, (yes, 
 abbrev pub Value4 : (R X Z U S : RattleType) → (R.Denot → X.Denot → Z.Denot → U.Denot → S.Denot) → {M : Type 1} {𝓤 : Ura M} (𝓛 : Logic 𝓤) → Contract 𝓤
 Value4 R X Z U S f = Value (plain (λ _. R) ∷ plain (λ _. X) ∷ plain (λ _. Z) ∷ plain (λ _. U) ∷ []) (yes, (yes, (yes, (yes, tt)))) S (λ a. f a.0 a.1.0 a.1.1.0 a.1.1.1.0)
 
-module _ {M : Type 1} {𝓤 : Ura M} {𝓛 : Logic 𝓤} {K : Type 0} {Γ : List (Item 𝓤)} {E : Env 𝓤 𝓛.H} {C : Calls 𝓤 𝓛.H} {k : Name} {xs : List Operand} {Λ : Loops 𝓤 𝓛.H} {q : Post 𝓤 𝓛.H} {d : Place} where
+module _ {M : Type 1} {𝓤 : Ura M} {𝓛 : Logic 𝓤} {K : Type 0} {Γ : List (Item 𝓤)} {E : Env 𝓤 𝓛.H} {C : Calls 𝓤 𝓛.H} {k : Callee} {xs : List Operand} {Λ : Loops 𝓤 𝓛.H} {q : Post 𝓤 𝓛.H} {d : Place} where
   open 𝓛 use {H}
 
   pub calls0 : K → FmC 𝓤 H 𝓛.laws C → {rest : Body} (S : RattleType) (s : S.Denot) → Triple 𝓤 (C k) (Value0 S s 𝓛) → Opds K 𝓛 Γ E xs []

@@ -1,7 +1,7 @@
 -- A local of a plain type is lent, within a walk, for the time of a call, and comes back as the callee left it.
---     local-in, local_back     the local's cell is a value in memory, and again the local's cell
+--     local_in, local_back     the local's cell is a value in memory, and again the local's cell
 --     row_in, row_back         the same of a local array: its elements, side by side
---     MutOne, calls-local      the call of a walked function over the local, lent as a `&mut R`: `fn g(c: &mut R, x: X) -> Y` with `RowStep`'s contract, Φ. The local then holds what Φ says of it
+--     MutOne, calls_local      the call of a walked function over the local, lent as a `&mut R`: `fn g(c: &mut R, x: X) -> Y` with `RowStep`'s contract, Φ. The local then holds what Φ says of it
 -- The operands are read with two entries, i and j, in the place of the local's cell: so a position that was p is p + 1.
 -- It says nothing of the crate, and can be copied as it stands. Assumes nothing.
 use mathlib.Core.Path.{◌≡◌, refl, sym, ◌∙◌, ap, subst}
@@ -9,8 +9,8 @@ use Prim.Native.Nat.{ℕ}
 use mathlib.Core.List.{List, [], ◌∷◌}
 use lib.ListN.{length}
 use seplogic.Ra.Ura.{Ura}
-use seplogic.Ra.TreeShare.{full_share}
-use mir.Syntax.{Name, Ty, Place, Opd as Operand, Body, named, seq, call}
+use base.Fraction.{full_share}
+use mir.Syntax.{Callee, Ty, Place, Opd as Operand, Body, named, seq, call}
 use mir.Raw.{raw as raw_ty}
 use mir.Val.{Val, vptr}
 use base.Logic.{ent, sep, emp, id⊢}
@@ -56,7 +56,7 @@ module _ {R : RattleType} (P : Plain R) where
 module _ {M : Type 1} {𝓤 : Ura M} {𝓛 : Logic 𝓤} {K : Type 0} {Γ : List (Item 𝓤)} {G : Goal 𝓤 𝓛.H} where
   pub local_back : K → {R : RattleType} (P : Plain R) (x : R.Denot) (l : ℕ) → (Is R x (vals P x) → Seq K 𝓛 (‵ (fat full_share (ty P) l 0 (val P x)) ∷ Γ) G) → Seq K 𝓛 (‵ (part_at R full_share x l 0) ∷ Γ) G
   local_back t {R} P x l k =
-      use1 𝓛 (some (λ (v : Val). ‵ (fat full_share (ty P) l 0 v) ⊛ ‵ (R.own x (v ∷ [])))) (part_out_at 𝓛 R (one P) full_share x l 0 (ty P) (same_raw P)) $ pick t (λ v. split t $ move t (1 ∷ []) $
+      use1 𝓛 (some (λ (v : Val). ‵ (fat full_share (ty P) l 0 v) ⊛ ‵ (R.own_val x (v ∷ [])))) (part_out_at 𝓛 R (one P) full_share x l 0 (ty P) (same_raw P)) $ pick t (λ v. split t $ move t (1 ∷ []) $
       peeks t R (Is R) (shows 𝓛 R) x (v ∷ []) (λ g. drop t $ rewrite t 0 (λ (z : Val). ‵ (fat full_share (ty P) l 0 z)) (ap only (tells P x (v ∷ []) g)) refl $ k (told P x (v ∷ []) g)))
 
 module _ {M : Type 1} {𝓤 : Ura M} {𝓛 : Logic 𝓤} {K : Type 0} {Γ : List (Item 𝓤)} {G : Goal 𝓤 𝓛.H} where
@@ -95,7 +95,7 @@ module _ (R X Y : RattleType) where
           qed 𝓛 (‵ (flft (ν ∷ []) full_share) ∷ ‵ ((MutRef (named 0) (ν ∷ []) R).own_val arg_ref.0 (vptr b o ∷ [])) ∷ []) ∵
           nothing ! $ owned ! X (Is X) (P.makes M 𝓤 𝓛) x (vx ∷ []) gx $ fjoin ! $ move ! (2 ∷ 0 ∷ []) $ fjoin ! $ nothing ! $ move ! (2 ∷ 0 ∷ []) $ join ! $ join ! $ nothing ! $ move ! (1 ∷ 0 ∷ []) $ frame ! $ done !
 
-module _ {M : Type 1} {𝓤 : Ura M} {𝓛 : Logic 𝓤} {K : Type 0} {Γ : List (Item 𝓤)} {E : Env 𝓤 𝓛.H} {C : Calls 𝓤 𝓛.H} {k : Name} {xs : List Operand} {Λ : Loops 𝓤 𝓛.H} {q : Post 𝓤 𝓛.H} {d : Place} where
+module _ {M : Type 1} {𝓤 : Ura M} {𝓛 : Logic 𝓤} {K : Type 0} {Γ : List (Item 𝓤)} {E : Env 𝓤 𝓛.H} {C : Calls 𝓤 𝓛.H} {k : Callee} {xs : List Operand} {Λ : Loops 𝓤 𝓛.H} {q : Post 𝓤 𝓛.H} {d : Place} where
   open 𝓛 use {H}
 
   pub calls_local : K → FmC 𝓤 H 𝓛.laws C → {rest : Body} {R X : RattleType} (P : Plain R) (PX : Plain X) (Y : RattleType) (Φ : R.Denot → X.Denot → R.Denot → Y.Denot → Type 0) → Triple 𝓤 (C k) (MutOne R X Y Φ 𝓛)
@@ -107,9 +107,9 @@ module _ {M : Type 1} {𝓤 : Ura M} {𝓛 : Logic 𝓤} {K : Type 0} {Γ : List
       -- [the reference; the lender's part; the lifetime's token; …]
       move t (2 ∷ 0 ∷ []) $ use2 𝓛 (raw ((MutOne R X Y Φ 𝓛).pre (at_ref R X Y Φ 𝓛 ν l 0 δ c x (val PX x)))) (asks_ref R X Y Φ 𝓛 ν l 0 δ c x (val PX x) PX gx) $
       calls_at t fm (MutOne R X Y Φ 𝓛) known (at_ref R X Y Φ 𝓛 ν l 0 δ c x (val PX x)) (os _ _) (λ v.
-      use1 𝓛 (later (some (λ (r : Y.Denot). ((‵ (flft (ν ∷ []) full_share) ⊛ ‵ ftrue) ⊛ ‵ (Y.own r (v ∷ [])))
+      use1 𝓛 (later (some (λ (r : Y.Denot). ((‵ (flft (ν ∷ []) full_share) ⊛ ‵ ftrue) ⊛ ‵ (Y.own_val r (v ∷ [])))
       ⊛ some (λ (ws : Lasts (ended_ref R X Y) (ν ∷ [], tt) (arg_ref R X Y Φ 𝓛 ν l 0 δ c x (val PX x))). ‵ (lasts (ended_ref R X Y) (ν ∷ [], tt) (arg_ref R X Y Φ 𝓛 ν l 0 δ c x (val PX x)) ws) ⊛ raw (fact 𝓤 (Φ c x ws.0 r)))))) (id⊢ 𝓤 _) $ await t tt $ pick t (λ r.
-      split t $ move t (1 ∷ []) $ pick t (λ ws. split t $ move t (1 ∷ []) $ heard t (Φ c x ws.0 r) (λ e. fsplit t $ move t (1 ∷ []) $ drop t $
+      split t $ move t (1 ∷ []) $ pick t (λ ws. split t $ move t (1 ∷ []) $ heard t (Φ c x ws.0 r) (λ e. fsplit t $ move t (1 ∷ []) $ drop t $ fsplit t $ move t (1 ∷ []) $ drop t $
       -- [the last value; the token and the result; the lender's part; …]
       move t (1 ∷ []) $ split t $ move t (1 ∷ []) $ peeks t Y (Is Y) (shows 𝓛 Y) r (v ∷ []) (λ g. drop t $ split t $ lft_end t tt $ move t (0 ∷ 3 ∷ 2 ∷ []) $
       use3 𝓛 (later (‵ (part_at R full_share ws.0 l 0))) (ref_back 𝓛 R (ν ∷ []) δ ws.0 l 0) $ await t tt $ move t (1 ∷ []) $ drop t $

@@ -1,4 +1,4 @@
--- `fn own-handle(t: [R; n], area: &mut [u8], image: &mut [u8], answer: &mut [u8], client: X₁, clock: X₂, request: &[u8]) -> S { let mut row = t; let o = g(&mut row, area, image, answer, client, clock, request); pair(o, row) }` at any plain R, Y, S and X₁, X₂ and any n, where g is a walked function over a lent row, at any contract of one fact, and pair a covered function whose contract says its result by f: a walk of its MIR.
+-- `fn own_handle(t: [R; n], area: &mut [u8], image: &mut [u8], answer: &mut [u8], client: X₁, clock: X₂, request: &[u8]) -> S { let mut row = t; let o = g(&mut row, area, image, answer, client, clock, request); pair(o, row) }` at any plain R, Y, S and X₁, X₂ and any n, where g is a walked function over a lent row, at any contract of one fact, and pair a covered function whose contract says its result by f: a walk of its MIR.
 -- The row is copied to a local, the local is lent to g (`RowOn`), and pair takes it as g left it. The other parameters go to g for good, at their own lifetimes.
 --     Φ        what g's contract says of the row and the parameters at entry, of the row and of each `&mut [u8]` at exit, and of its result
 --     Ψ        what the contract says of the row and the parameters at entry, of the result, and of each `&mut [u8]` at exit. It is asked of what Φ says
@@ -9,8 +9,8 @@ use mathlib.Core.List.{List, [], ◌∷◌}
 use lib.ListN.{length}
 use lib.Dec.{T, ltb, lit<}
 use seplogic.Ra.Ura.{Ura}
-use seplogic.Ra.TreeShare.{full_share}
-use mir.Syntax.{Name, Ty, Fn, Mutability, named, erased, imm, mut, w8, w64, ty_int, ty_ref, deref, field, place, copy, int, local, value_local, memory_slot, seq, assign, call, return, rv_opd, aggregate, addr_of}
+use base.Fraction.{full_share}
+use mir.Syntax.{Callee, Ty, Fn, Mutability, named, erased, imm, mut, w8, w64, ty_int, ty_ref, deref, field, place, copy, int, local, value_local, memory_slot, seq, assign, call, return, rv_opd, aggregate, addr_of}
 use mir.Val.{Val}
 use base.Logic.{SProp, ent, emp, via, fst∗, id⊢}
 use base.Fml.{fat}
@@ -28,7 +28,7 @@ use denote.Exit.{yes}
 use denote.RattleType.{RattleType, Denots, Valss, owns}
 use denote.Laws.{Is}
 use denote.Memory.{pointee}
-use denote.Ref.{Bor}
+use denote.Ref.{Bor, MutBor}
 use denote.Slice.{slice_ty, slice_val, Room, shr_slice_vals, mut_slice_vals, mut_slice_Tells, shr_slice_Tells}
 use denote.Signature.{Signature, Slot, plain, mut_slice_of, shr_slice_of, types_at}
 use denote.Triple.Entry.{Args, Vals, on_entry}
@@ -85,10 +85,12 @@ module _ (R Y S X₁ X₂ : RattleType) (P : Plain R) (m : ℕ) (PY : Plain Y) (
   uniq = ty_ref erased mut (pointee R.written)
 
   -- the locals: the result, t, area, image, answer, client, clock, request, row, o, `&mut row` and the slice of it, `&mut *area` and the slice of it, `&mut *image` and the slice of it, `&mut *answer` and the slice of it, and row as it is passed. k and kₚ are the keys of g and pair
-  abbrev pub function : Name → Name → Fn
+  abbrev pub function : Callee → Callee → Fn
   function k kₚ = record {
     lifetimes = 4;
     outlives = [];
+    ty_params = [];
+    givens = 0;
     params = 7;
     locals = local (ty PS) value_local ∷ local (ty PR) value_local ∷ local (lent 0 mut) value_local ∷ local (lent 1 mut) value_local ∷ local (lent 2 mut) value_local ∷ local (ty PX₁) value_local ∷ local (ty PX₂) value_local ∷ local (lent 3 imm) value_local ∷ local (ty PR) memory_slot ∷ local (ty PY) value_local ∷ local whole_ref value_local ∷ local (slice_ty uniq) value_local ∷ local lent_ref value_local ∷ local (slice_ty lent_ref) value_local ∷ local lent_ref value_local ∷ local (slice_ty lent_ref) value_local ∷ local lent_ref value_local ∷ local (slice_ty lent_ref) value_local ∷ local (ty PR) value_local ∷ [];
     body = seq (assign (place 8 []) (rv_opd (copy (place 1 []))))
@@ -122,16 +124,16 @@ module _ (R Y S X₁ X₂ : RattleType) (P : Plain R) (m : ℕ) (PY : Plain Y) (
 
       module _ (small : T (ltb m (2 ^ 64))) (room : Room R m)
           (meant : (ys : List R.Denot) (area : List ℕ) (image : List ℕ) (answer : List ℕ) (client : X₁.Denot) (clock : X₂.Denot) (request : List ℕ) (zs : List R.Denot) (area' : List ℕ) (image' : List ℕ) (answer' : List ℕ) (r : Y.Denot) → Φ ys area image answer client clock request zs area' image' answer' r → Ψ ys area image answer client clock request (f r zs) area' image' answer')
-          {M : Type 1} {𝓤 : Ura M} (𝓛 : Logic 𝓤) (k kₚ : Name) where
+          {M : Type 1} {𝓤 : Ura M} (𝓛 : Logic 𝓤) (k kₚ : Callee) where
         open 𝓛 use {H}
 
-        module _ (κs : Lfts 4) (qs : Shares 4) (t : List R.Denot) (area : Bor (List ℕ)) (image : Bor (List ℕ)) (answer : Bor (List ℕ)) (client : X₁.Denot) (clock : X₂.Denot) (request : Bor (List ℕ)) (g-t : Is Row t (vals PR t)) where
+        module _ (κs : Lfts 4) (qs : Shares 4) (t : List R.Denot) (area : MutBor (List ℕ)) (image : MutBor (List ℕ)) (answer : MutBor (List ℕ)) (client : X₁.Denot) (clock : X₂.Denot) (request : Bor (List ℕ)) (g-t : Is Row t (vals PR t)) where
           -- what is passed on, and its machine values
           abbrev on : Denots (types_at rests κs)
           on = (area, (image, (answer, (client, (clock, (request, tt))))))
 
           abbrev ons : Valss (types_at rests κs)
-          ons = (shr_slice_vals area, (shr_slice_vals image, (shr_slice_vals answer, (vals PX₁ client, (vals PX₂ clock, (shr_slice_vals request, tt))))))
+          ons = (mut_slice_vals area, (mut_slice_vals image, (mut_slice_vals answer, (vals PX₁ client, (vals PX₂ clock, (shr_slice_vals request, tt))))))
 
           abbrev a : Args signature κs
           a = (t, on)

@@ -7,8 +7,8 @@ use mathlib.Core.List.{List, [], ◌∷◌}
 use lib.ListN.{length}
 use lib.Dec.{T, ltb, lit<}
 use seplogic.Ra.Ura.{Ura}
-use seplogic.Ra.TreeShare.{full_share}
-use mir.Syntax.{Name, Ty, Fn, erased, imm, w64, ty_ref, place, copy, int, local, value_local, memory_slot, seq, assign, call, return, rv_opd, aggregate, addr_of}
+use base.Fraction.{full_share}
+use mir.Syntax.{Callee, Ty, Fn, erased, imm, w64, ty_ref, place, copy, int, local, value_local, memory_slot, seq, assign, call, return, rv_opd, aggregate, addr_of}
 use mir.Val.{Val, vptr}
 use base.Logic.{SProp, ent, emp, via, fst∗, id⊢}
 use base.Fml.{ftrue, fat, froom, fdies}
@@ -54,10 +54,12 @@ module _ (R Y : RattleType) (P : Plain R) (m : ℕ) (PY : Plain Y) (Φ : List R.
   slice = slice_ty (ty_ref erased imm (pointee R.written))
 
   -- the locals: the result, t, t where it is lent, `&t` and the slice of it. k is g's key
-  abbrev pub function : Name → Fn
+  abbrev pub function : Callee → Fn
   function k = record {
     lifetimes = 0;
     outlives = [];
+    ty_params = [];
+    givens = 0;
     params = 1;
     locals = local (ty PY) value_local ∷ local (ty PR) value_local ∷ local (ty PR) memory_slot ∷ local whole_ref value_local ∷ local slice value_local ∷ [];
     body = seq (assign (place 2 []) (rv_opd (copy (place 1 []))))
@@ -76,7 +78,7 @@ module _ (R Y : RattleType) (P : Plain R) (m : ℕ) (PY : Plain Y) (Φ : List R.
   spec 𝓤 κs a = record { ghost = Unit {0}; requires = λ _. emp 𝓤; ensures = λ _ r _. fact 𝓤 (Φ a.0 r) }
 
   -- g's contract
-  abbrev pub Known : {M : Type 1} {𝓤 : Ura M} (𝓛 : Logic 𝓤) → Calls 𝓤 𝓛.H → Name → Type 1
+  abbrev pub Known : {M : Type 1} {𝓤 : Ura M} (𝓛 : Logic 𝓤) → Calls 𝓤 𝓛.H → Callee → Type 1
   Known {𝓤 = 𝓤} 𝓛 C k = Triple 𝓤 (C k) (AnyRow [] tt R Y (λ κs ys a r. Φ ys r) 𝓛)
 
   module _ (small : T (ltb m (2 ^ 64))) (room : Room R m) {M : Type 1} {𝓤 : Ura M} (𝓛 : Logic 𝓤) where
@@ -97,7 +99,7 @@ module _ (R Y : RattleType) (P : Plain R) (m : ℕ) (PY : Plain Y) (Φ : List R.
           qed 𝓛 [] ∵ suffices ! _ (ends_at 𝓛 ended stayed (spec 𝓤) bound (val PY r) r (rest PR yes t, tt) (tt, tt)) $ says ! e $
           owned ! Y (Is Y) (PY.makes M 𝓤 𝓛) r _ gr $ nothing ! $ owned ! Row (Is Row) (PR.makes M 𝓤 𝓛) t _ gt $ fjoin ! $ nothing ! $ done !
 
-      module _ (C : Calls 𝓤 H) (Λ : Loops 𝓤 H) (fm : FmC 𝓤 H 𝓛.laws C) (k : Name) (known : Known 𝓛 C k) where
+      module _ (C : Calls 𝓤 H) (Λ : Loops 𝓤 H) (fm : FmC 𝓤 H 𝓛.laws C) (k : Callee) (known : Known 𝓛 C k) where
         module _ (l₀ l₁ l₂ l₃ l₄ : ℕ) where
           abbrev E : Env 𝓤 H
           E = (ty PY, l₀) ∷ (ty PR, l₁) ∷ (ty PR, l₂) ∷ (whole_ref, l₃) ∷ (slice, l₄) ∷ []
@@ -119,14 +121,14 @@ module _ (R Y : RattleType) (P : Plain R) (m : ℕ) (PY : Plain Y) (Φ : List R.
             move ! (4 ∷ []) $
             -- [_2; _4; …; _3; …; _1; …; room for _0; …]
             row_in ! P m t l₂ gt (λ e.
-            calls_any ! fm [] tt R Y (λ κs ys a r. Φ ys r) known full_share t l₂ 0 (subst (Room R) (sym e) room) (λ ν. tt) (λ ν. tt) (λ ν. id⊢ 𝓤 (emp 𝓤)) (λ ν. counted l₀ l₁ l₂ l₃ l₄ e) (λ ν v r gr said.
+            calls_any ! fm [] tt R Y P (λ κs ys a r. Φ ys r) known full_share t l₂ 0 (subst (Room R) (sym e) room) (λ ν. tt) (λ ν. tt) (λ ν. id⊢ 𝓤 (emp 𝓤)) (λ ν. counted l₀ l₁ l₂ l₃ l₄ e) (λ ν v r gr said.
             row_back ! P m t l₂ e (λ gt'.
             land ! (from ! (stop !)) (init ! 8 refl (fits_at PY 𝓛 r v gr)) $ rewrite ! 8 (λ (z : Val). ‵ (fat full_share (ty PY) l₀ 0 z)) (ap only (tells PY r (v ∷ []) gr)) refl $
             returns ! (look ! 8 refl) $ forget ! 0 refl $ forget ! 1 refl $ forget ! 3 refl $ forget ! 6 refl $ forget ! 8 refl $
             keep ! (1 ∷ 2 ∷ 3 ∷ 4 ∷ 0 ∷ 5 ∷ 6 ∷ 7 ∷ 8 ∷ 9 ∷ []) $ free_all ! (E l₀ l₁ l₂ l₃ l₄) $
             by ! (exits r (told PY r (v ∷ []) gr) said)))))))))
 
-    module _ (k : Name) where
+    module _ (k : Callee) where
       own_query_walks : (C : Calls 𝓤 H) (Λ : Loops 𝓤 H) → FmC 𝓤 H 𝓛.laws C → Known 𝓛 C k → Walks 𝓛 ended stayed (WpFn 𝓤 H C Λ (function k)) (spec 𝓤)
       own_query_walks C Λ fm known = walked 𝓛 ended stayed (spec 𝓤) (WpFn 𝓤 H C Λ (function k)) (λ κs. (vals PR, tt)) (λ κs. (tells PR, tt)) (λ κs qs bounds a g are. via 𝓤 _ (fst∗ 𝓤 _ (emp 𝓤)) (walk a.0 are.0 C Λ fm k known))
 

@@ -5,8 +5,8 @@
 use mathlib.Core.Path.{refl, ap}
 use mathlib.Core.List.{[], ◌∷◌}
 use seplogic.Ra.Ura.{Ura}
-use seplogic.Ra.TreeShare.{full_share}
-use mir.Syntax.{Name, Fn, erased, mut, ty_ref, place, copy, local, value_local, memory_slot, seq, assign, call, return, rv_opd, addr_of}
+use base.Fraction.{full_share}
+use mir.Syntax.{Callee, Fn, erased, mut, ty_ref, place, copy, local, value_local, memory_slot, seq, assign, call, return, rv_opd, addr_of}
 use mir.Val.{Val}
 use base.Logic.{SProp, ent, emp, via, fst∗}
 use base.Fml.{ftrue, fat}
@@ -37,10 +37,12 @@ module _ (R X Y S : RattleType) (P : Plain R) (PX : Plain X) (PY : Plain Y) (PS 
   signature = record { lifetimes = 0; outlives = []; params = plain (λ _. R) ∷ plain (λ _. X) ∷ []; result = plain (λ _. S) }
 
   -- the locals: the result, c, x, r, y, `&mut r`, and r as it is passed. k and kₚ are the keys of g and pair
-  abbrev pub function : Name → Name → Fn
+  abbrev pub function : Callee → Callee → Fn
   function k kₚ = record {
     lifetimes = 0;
     outlives = [];
+    ty_params = [];
+    givens = 0;
     params = 2;
     locals = local (ty PS) value_local ∷ local (ty P) value_local ∷ local (ty PX) value_local ∷ local (ty P) memory_slot ∷ local (ty PY) value_local ∷ local (ty_ref erased mut (pointee R.written)) value_local ∷ local (ty P) value_local ∷ [];
     body = seq (assign (place 3 []) (rv_opd (copy (place 1 []))))
@@ -77,7 +79,7 @@ module _ (R X Y S : RattleType) (P : Plain R) (PX : Plain X) (PY : Plain Y) (PS 
           qed 𝓛 [] ∵ suffices ! _ (ends_at 𝓛 ended stayed (spec 𝓤) bound (val PS s) s (rest P yes c, (rest PX yes x, tt)) (tt, (tt, tt))) $ says ! e $
           owned ! S (Is S) (PS.makes M 𝓤 𝓛) s _ gs $ nothing ! $ owned ! X (Is X) (PX.makes M 𝓤 𝓛) x _ gx $ fjoin ! $ owned ! R (Is R) (P.makes M 𝓤 𝓛) c _ gc $ fjoin ! $ nothing ! $ done !
 
-      module _ (C : Calls 𝓤 H) (Λ : Loops 𝓤 H) (fm : FmC 𝓤 H 𝓛.laws C) (k kₚ : Name) (known : Triple 𝓤 (C k) (MutOne R X Y Φ 𝓛)) (known-pair : Triple 𝓤 (C kₚ) (Value2 R Y S f 𝓛)) where
+      module _ (C : Calls 𝓤 H) (Λ : Loops 𝓤 H) (fm : FmC 𝓤 H 𝓛.laws C) (k kₚ : Callee) (known : Triple 𝓤 (C k) (MutOne R X Y Φ 𝓛)) (known-pair : Triple 𝓤 (C kₚ) (Value2 R Y S f 𝓛)) where
         walk : ent 𝓤 (on_entry 𝓛 signature tt tt (c, (x, tt)) at) (WpFn 𝓤 H C Λ (function k kₚ) (val P c ∷ val PX x ∷ []) Post)
         walk =
             qed 𝓛 (‵ ftrue ∷ ‵ (owns (R ∷ X ∷ []) (c, (x, tt)) at) ∷ []) ∵ keep ! [] $ enter ! C Λ (function k kₚ) (val P c ∷ val PX x ∷ []) _ $
@@ -96,7 +98,7 @@ module _ (R X Y S : RattleType) (P : Plain R) (PX : Plain X) (PY : Plain Y) (PS 
             keep ! (1 ∷ 2 ∷ 3 ∷ 4 ∷ 5 ∷ 6 ∷ 0 ∷ 7 ∷ 8 ∷ 9 ∷ 10 ∷ 11 ∷ 12 ∷ 13 ∷ []) $ free_all ! ((ty PS, l₀) ∷ (ty P, l₁) ∷ (ty PX, l₂) ∷ (ty P, l₃) ∷ (ty PY, l₄) ∷ (ty_ref erased mut (pointee R.written), l₅) ∷ (ty P, l₆) ∷ []) $
             by ! (exits (f c' y) (told PS (f c' y) (u ∷ []) gu) (meant c x c' y e)))))))))))
 
-    module _ (k kₚ : Name) where
+    module _ (k kₚ : Callee) where
       own_step_walks : (C : Calls 𝓤 H) (Λ : Loops 𝓤 H) → FmC 𝓤 H 𝓛.laws C → Triple 𝓤 (C k) (MutOne R X Y Φ 𝓛) → Triple 𝓤 (C kₚ) (Value2 R Y S f 𝓛) → Walks 𝓛 ended stayed (WpFn 𝓤 H C Λ (function k kₚ)) (spec 𝓤)
       own_step_walks C Λ fm known known-pair = walked 𝓛 ended stayed (spec 𝓤) (WpFn 𝓤 H C Λ (function k kₚ)) (λ κs. (vals P, (vals PX, tt))) (λ κs. (tells P, (tells PX, tt)))
           (λ κs qs bounds a g are. via 𝓤 _ (fst∗ 𝓤 _ (emp 𝓤)) (walk a.0 a.1.0 are.0 are.1.0 C Λ fm k kₚ known known-pair))

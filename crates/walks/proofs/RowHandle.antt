@@ -10,8 +10,8 @@ use mathlib.Core.List.{List, [], ◌∷◌}
 use lib.ListN.{length}
 use lib.Dec.{T, ltb, eqb, eqb→eq}
 use seplogic.Ra.Ura.{Ura}
-use seplogic.Ra.TreeShare.{full_share}
-use mir.Syntax.{Name, Ty, Fn, Body, Mutability, named, erased, imm, mut, w8, w64, ty_unit, ty_int, ty_bool, ty_ref, deref, field, place, copy, int, local, value_local, skip, seq, assign, cond, call, return, rv_opd, op2, ne, aggregate, addr_of}
+use base.Fraction.{full_share}
+use mir.Syntax.{Callee, Ty, Fn, Body, Mutability, named, erased, imm, mut, w8, w64, ty_unit, ty_int, ty_bool, ty_ref, deref, field, place, copy, int, local, value_local, skip, seq, assign, cond, call, return, rv_opd, op2, ne, aggregate, addr_of}
 use mir.Val.{vbool, Val}
 use base.Logic.{SProp, ent, emp, via, fst∗}
 use base.Fml.{Lft, GName, Share, fat, froom, fdies, flft, fobs, fbor}
@@ -31,7 +31,7 @@ use denote.Shadow.{pure_i}
 use denote.Laws.{Is}
 use denote.Memory.{pointee}
 use denote.Ref.{Bor, MutBor}
-use denote.Slice.{slice_ty, slice_val, Room, shr_slice_vals, mut_slice_Tells, shr_slice_Tells, heres, coded_holeys, mut_slice_at}
+use denote.Slice.{slice_ty, slice_val, Room, shr_slice_vals, mut_slice_vals, mut_slice_Tells, shr_slice_Tells, heres, coded_holeys, mut_slice_at}
 use denote.Lend.{Held}
 use denote.Index.{opens_slice, closes_slice}
 use denote.Plain.{Nothing-Lawful}
@@ -98,7 +98,7 @@ module _ (R Y S X₁ X₂ : RattleType) (P : Plain R) (m : ℕ) (PY : Plain Y) (
   uniq = ty_ref erased mut (pointee R.written)
 
   -- the locals: the result, table, area, image, answer, client, clock, request, what core returns, a number, the test, the row, `&*table` and the slice of it, `&mut *area` and the slice of it, `&mut *image` and the slice of it, `&mut *answer` and the slice of it, (), `&mut *table` and the slice of it. kᵣ, kₗ, k and kₛ are the keys of refuse, load, core and save
-  abbrev pub work : Name → Name → Name → Body
+  abbrev pub work : Callee → Callee → Callee → Body
   work kₗ k kₛ = seq (assign (place 12 []) (addr_of (place 1 (field 0 ∷ deref (ty P) ∷ []))))
       (seq (assign (place 13 []) (aggregate (copy (place 12 []) ∷ copy (place 1 (field 1 ∷ [])) ∷ [])))
       (seq (call kₗ (copy (place 13 []) ∷ []) (place 11 []))
@@ -114,10 +114,12 @@ module _ (R Y S X₁ X₂ : RattleType) (P : Plain R) (m : ℕ) (PY : Plain Y) (
       (seq (call kₛ (copy (place 22 []) ∷ copy (place 8 (field 1 ∷ [])) ∷ []) (place 20 []))
       (seq (assign (place 0 []) (rv_opd (copy (place 8 (field 0 ∷ []))))) return)))))))))))))
 
-  abbrev pub function : Name → Name → Name → Name → Fn
+  abbrev pub function : Callee → Callee → Callee → Callee → Fn
   function kᵣ kₗ k kₛ = record {
     lifetimes = 5;
     outlives = [];
+    ty_params = [];
+    givens = 0;
     params = 7;
     locals = local (ty PY) value_local ∷ local slice value_local ∷ local (lent 1 mut) value_local ∷ local (lent 2 mut) value_local ∷ local (lent 3 mut) value_local ∷ local (ty PX₁) value_local ∷ local (ty PX₂) value_local ∷ local (lent 4 imm) value_local ∷ local (struct_ty B) value_local ∷ local (ty_int w64) value_local ∷ local ty_bool value_local ∷ local (ty PR) value_local ∷ local shr value_local ∷ local (slice_ty shr) value_local ∷ local lent_ref value_local ∷ local (slice_ty lent_ref) value_local ∷ local lent_ref value_local ∷ local (slice_ty lent_ref) value_local ∷ local lent_ref value_local ∷ local (slice_ty lent_ref) value_local ∷ local ty_unit value_local ∷ local uniq value_local ∷ local (slice_ty uniq) value_local ∷ [];
     body = seq (assign (place 9 []) (rv_opd (copy (place 1 (field 1 ∷ [])))))
@@ -143,14 +145,14 @@ module _ (R Y S X₁ X₂ : RattleType) (P : Plain R) (m : ℕ) (PY : Plain Y) (
       module _ (small : T (ltb m (2 ^ 64)))
           (accepts : (ys : List R.Denot) (area : List ℕ) (image : List ℕ) (answer : List ℕ) (client : X₁.Denot) (clock : X₂.Denot) (request : List ℕ) (s : S.Denot) (area' : List ℕ) (image' : List ℕ) (answer' : List ℕ) → length ys ≡ m → φ ys area image answer client clock request s area' image' answer' → Φ ys area image answer client clock request (B.two s) area' image' answer' (B.one s))
           (refuses : (ys : List R.Denot) (area : List ℕ) (image : List ℕ) (answer : List ℕ) (client : X₁.Denot) (clock : X₂.Denot) (request : List ℕ) → eqb (length ys) m ≡ false → Φ ys area image answer client clock request ys area image answer refused)
-          {M : Type 1} {𝓤 : Ura M} (𝓛 : Logic 𝓤) (kᵣ kₗ k kₛ : Name) where
+          {M : Type 1} {𝓤 : Ura M} (𝓛 : Logic 𝓤) (kᵣ kₗ k kₛ : Callee) where
         open 𝓛 use {H}
 
-        module _ (κ : Lft) (κs : Lfts 4) (q : Share) (qs : Shares 4) (b o : ℕ) (γ : GName) (ys : List R.Denot) (gn : Room R (length ys)) (area : MutBor (List ℕ)) (image : MutBor (List ℕ)) (answer : MutBor (List ℕ)) (client : X₁.Denot) (clock : X₂.Denot) (request : MutBor (List ℕ)) where
+        module _ (κ : Lft) (κs : Lfts 4) (q : Share) (qs : Shares 4) (b o : ℕ) (γ : GName) (ys : List R.Denot) (gn : Room R (length ys)) (area : MutBor (List ℕ)) (image : MutBor (List ℕ)) (answer : MutBor (List ℕ)) (client : X₁.Denot) (clock : X₂.Denot) (request : Bor (List ℕ)) where
           abbrev n : ℕ
           n = length ys
 
-          abbrev ref : List R.Denot → Bor (List R.Denot)
+          abbrev ref : List R.Denot → MutBor (List R.Denot)
           ref l = record { ref_ptr = (b, o); ghost_name = γ; now = l }
 
           abbrev s : Val
@@ -161,7 +163,7 @@ module _ (R Y S X₁ X₂ : RattleType) (P : Plain R) (m : ℕ) (PY : Plain Y) (
           on = (area, (image, (answer, (client, (clock, (request, tt))))))
 
           abbrev ons : Valss (types_at rests κs)
-          ons = (shr_slice_vals area, (shr_slice_vals image, (shr_slice_vals answer, (vals PX₁ client, (vals PX₂ clock, (shr_slice_vals request, tt))))))
+          ons = (mut_slice_vals area, (mut_slice_vals image, (mut_slice_vals answer, (vals PX₁ client, (vals PX₂ clock, (shr_slice_vals request, tt))))))
 
           abbrev a : Args signature (κ, κs)
           a = (ref ys, on)
@@ -240,7 +242,7 @@ module _ (R Y S X₁ X₂ : RattleType) (P : Plain R) (m : ℕ) (PY : Plain Y) (
                   -- [the elements; the open borrow; obs; auth; _22; …; _0; …; the tokens; what is passed on]
                   assigns ! (addr ! (from ! (fld ! refl (hop ! (look_in ! 46 (sub ! 0 refl (whole !))) (stop !))))) (from ! (stop !)) (init ! 24 refl (tt, tt)) $
                   assigns ! (agg ! (and_then ! (load ! (from ! (stop !)) (look ! 24 refl)) (and_then ! (load ! (from ! (fld ! refl (stop !))) (look_in ! 46 (sub ! 1 refl (whole !)))) (no_more !)))) (from ! (stop !)) (init ! 22 refl (tt, (tt, (record { fits = gn.0 }, tt)))) $
-                  calls_shr ! fm R Row Eight loaded known-load full_share ys b o gn is_eight (λ i j. (and_then ! (load ! (from ! (stop !)) (look ! 23 refl)) (no_more !))) (λ u gu.
+                  calls_shr ! fm R Row P Eight loaded known-load full_share ys b o gn is_eight (λ i j. (and_then ! (load ! (from ! (stop !)) (look ! 23 refl)) (no_more !))) (λ u gu.
                   land ! (from ! (stop !)) (init ! 26 refl (fits_at PR 𝓛 ys u gu)) $ rewrite ! 26 (λ (z : Val). ‵ (fat full_share (ty PR) l₁₁ 0 z)) (ap only (tells PR ys (u ∷ []) gu)) refl $
                   assigns ! (addr ! (from ! (fld ! refl (hop ! (look_in ! 44 (sub ! 0 refl (whole !))) (stop !))))) (from ! (stop !)) (init ! 20 refl (tt, tt)) $
                   assigns ! (agg ! (and_then ! (load ! (from ! (stop !)) (look ! 20 refl)) (and_then ! (load ! (from ! (fld ! refl (stop !))) (look_in ! 44 (sub ! 1 refl (whole !)))) (no_more !)))) (from ! (stop !)) (init ! 18 refl (tt, (tt, (record { fits = g-area.0 }, tt)))) $
@@ -280,7 +282,7 @@ module _ (R Y S X₁ X₂ : RattleType) (P : Plain R) (m : ℕ) (PY : Plain Y) (
 
         handle_walks : (C : Calls 𝓤 H) (Λ : Loops 𝓤 H) → FmC 𝓤 H 𝓛.laws C → Triple 𝓤 (C kᵣ) (Value0 Y refused 𝓛) → Triple 𝓤 (C kₗ) (ShrRow R Row Eight loaded 𝓛) → Triple 𝓤 (C k) (On 4 rests keeps Row S cored 𝓛) → Triple 𝓤 (C kₛ) (MutRow R Row Eight saved 𝓛)
             → Walks 𝓛 ended stayed (WpFn 𝓤 H C Λ (function kᵣ kₗ k kₛ)) (spec 𝓤)
-        handle_walks C Λ fm known-refuse known-load known known-save = walked 𝓛 ended stayed (spec 𝓤) (WpFn 𝓤 H C Λ (function kᵣ kₗ k kₛ)) (λ κs. (shr_slice_vals, (shr_slice_vals, (shr_slice_vals, (shr_slice_vals, (vals PX₁, (vals PX₂, (shr_slice_vals, tt))))))))
+        handle_walks C Λ fm known-refuse known-load known known-save = walked 𝓛 ended stayed (spec 𝓤) (WpFn 𝓤 H C Λ (function kᵣ kₗ k kₛ)) (λ κs. (mut_slice_vals, (mut_slice_vals, (mut_slice_vals, (mut_slice_vals, (vals PX₁, (vals PX₂, (shr_slice_vals, tt))))))))
             (λ κs. (mut_slice_Tells (named 0) κs.0 R, (mut_slice_Tells (named 1) κs.1.0 u8, (mut_slice_Tells (named 2) κs.1.1.0 u8, (mut_slice_Tells (named 3) κs.1.1.1.0 u8, (tells PX₁, (tells PX₂, (shr_slice_Tells (named 4) κs.1.1.1.1.0 u8, tt))))))))
             (λ κs qs bounds a g are. via 𝓤 _ (fst∗ 𝓤 _ (emp 𝓤)) (walk κs.0 κs.1 qs.0 qs.1 a.0.ref_ptr.0 a.0.ref_ptr.1 a.0.ghost_name a.0.now are.0.0.1 a.1.0 a.1.1.0 a.1.1.1.0 a.1.1.1.1.0 a.1.1.1.1.1.0 a.1.1.1.1.1.1.0 C Λ fm known-refuse known-load known known-save are.1.0.0.1 are.1.1.0.0.1 are.1.1.1.0.0.1 are.1.1.1.1.0 are.1.1.1.1.1.0 are.1.1.1.1.1.1.0.0.1))
 

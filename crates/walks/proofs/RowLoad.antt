@@ -12,11 +12,11 @@ use lib.WfN.{lt-wf_rel}
 use lib.ListN.{length, get_or}
 use lib.Dec.{T, ltb, ltb→lt, nltb→le, lit<}
 use seplogic.Ra.Ura.{Ura}
-use seplogic.Ra.TreeShare.{full_share}
-use mir.Syntax.{Name, Ty, Fn, Body, named, imm, w64, ty_int, ty_bool, ty_ptr, ty_ref, deref, field, place, copy, int, local, value_local, memory_slot, unsigned, skip, seq, assign, block, loop, cond, exit, call, return, rv_opd, addr_of, op2, add, mul, lt, offset}
+use base.Fraction.{full_share}
+use mir.Syntax.{Callee, Ty, Fn, Body, named, imm, w64, ty_int, ty_bool, ty_ptr, ty_ref, deref, field, place, copy, int, local, value_local, memory_slot, unsigned, skip, seq, assign, block, loop, cond, exit, call, return, rv_opd, addr_of, op2, add, mul, lt, offset}
 use mir.Val.{vbool, vint, vptr, Val}
 use base.Logic.{SProp, ent}
-use base.Fml.{Lft, GName, Share, ftrue, fat, froom, fdies, flft, fres, fobor, fshr_bor}
+use base.Fml.{Lft, GName, Share, ftrue, fat, froom, fdies, flft, fhide}
 use prog.Wp.{Env, Calls, Loops, Wp, WpFn, Tables, after_seq, after_block, after_turn, at_return}
 use types.Logic.{Logic}
 use sound.WpLaws.{FmC, fm_of, WpFn-mono}
@@ -24,16 +24,16 @@ use types.Kit as Kit
 use types.Kit.{Item, Sq, runs, any_q, at_ret, ‵, ◌⊛◌, ⋆, ◌$◌, ◌∵◌, !, qed, by, move, keep, drop, split, join, rewrite, fsplit, fjoin, suffices, frame, done}
 use types.Part.{whole, sub, look_in}
 use types.Run.{look, look_raw, init, store, store_raw, forget, stop, hop, fld, from, load, lit, of_opd, bin, addr, no_more, land, assigns, assigns_last, first, blocks, stays, leaves_loop, exec, Below, again, loops, returns, enter, alloc1, alloc0, params1, pass1, pass0}
-use types.Share.{arr_parts}
 use contract.Monad.{fact}
 use denote.Array.{Array}
 use denote.Exit.{yes}
 use denote.RattleType.{RattleType, owns}
 use denote.Shadow.{pure_i}
 use denote.Laws.{Is, shows}
-use denote.Memory.{mem, shares, pointee}
+use denote.Memory.{mem, pointee}
 use denote.Ref.{Bor}
-use denote.Slice.{slice_ty, slice_val, ShrSlice, Room, shr_slice_vals, shr_slice_Tells, heres, coded_holeys, shr_slice_at}
+use denote.Slice.{slice_ty, slice_val, ShrSlice, Room, shr_slice_vals, shr_slice_Tells, shr_slice_at, elements_shared}
+use denote.Opens.{Shut}
 use denote.Index.{place as place_of, place_is, row, elem_out, elem_back, elem_put, looks_slice, shuts_slice}
 use denote.Signature.{Signature, plain, shr_slice_of}
 use denote.Triple.Entry.{Vals, on_entry}
@@ -42,7 +42,7 @@ use denote.Triple.Statement.{Triple}
 use denote.Triple.Spec.{Meets}
 use denote.Triple.Clauses.{Clauses, Ended, closing}
 use denote.Triple.Walked.{says, needs, Stays, stay_none_slice, walk_of, Walks, ends_at, walked, Goes-none_slice, walk_Meets}
-use Rattle.walks.proofs.Plain.{Plain, array, ty, val, vals, tells, told, fits, fits_at, copies, bares, wraps}
+use Rattle.walks.proofs.Plain.{Plain, array, ty, val, vals, tells, told, fits, fits_at, bares, wraps}
 use Rattle.walks.proofs.ByValue.{Value0, calls0}
 use Rattle.walks.proofs.LocalLend.{row_in, row_back}
 use Rattle.walks.proofs.Frees.{free_all}
@@ -82,10 +82,12 @@ module _ (R : RattleType) (P : Plain R) (d : R.Denot) (m : ℕ) (z : List R.Deno
   abbrev pub after : Body
   after = seq (assign (place 0 []) (rv_opd (copy (place 2 [])))) return
 
-  abbrev pub function : Name → Fn
+  abbrev pub function : Callee → Fn
   function k = record {
     lifetimes = 1;
     outlives = [];
+    ty_params = [];
+    givens = 0;
     params = 1;
     locals = local (ty PB) value_local ∷ local (slice_ty (ty_ref (named 0) imm (pointee R.written))) value_local ∷ local (ty PB) memory_slot ∷ local (ty_int w64) value_local ∷ local (ty PB) value_local ∷ local (ty_int w64) value_local ∷ local ty_bool value_local ∷ local ty_ptr value_local ∷ local (ty P) value_local ∷ local (ty_int w64) value_local ∷ local ty_ptr value_local ∷ local ty_ptr value_local ∷ [];
     body = seq (call k [] (place 4 [])) (seq (assign (place 2 []) (rv_opd (copy (place 4 [])))) (seq (assign (place 3 []) (rv_opd (int w64 0))) (seq (block (loop turn)) after)));
@@ -110,7 +112,7 @@ module _ (R : RattleType) (P : Plain R) (d : R.Denot) (m : ℕ) (z : List R.Deno
   less ys s t = length ys - s.i < length ys - t.i
 
   module _ (small : T (ltb size (2 ^ 64))) (full : length z ≡ m) where
-    module _ {M : Type 1} {𝓤 : Ura M} (𝓛 : Logic 𝓤) (k : Name) where
+    module _ {M : Type 1} {𝓤 : Ura M} (𝓛 : Logic 𝓤) (k : Callee) where
       open 𝓛 use {H}
 
       module _ (κ : Lft) (q : Share) (b o : ℕ) (γ : GName) (ys : List R.Denot) (gn : Room R (length ys)) (len : length ys ≡ m) where
@@ -134,16 +136,16 @@ module _ (R : RattleType) (P : Plain R) (d : R.Denot) (m : ℕ) (z : List R.Deno
 
         -- the names under which the slice is held
         abbrev shared : Item 𝓤
-        shared = ‵ (fshr_bor κ (λ t. (arr_parts (shares R) n).part t ys b o))
+        shared = ‵ (fhide (elements_shared R ys b o κ))
 
         abbrev fixed : Item 𝓤
-        fixed = ‵ (fres γ ((coded_holeys R).code (heres R ys)))
+        fixed = ‵ ftrue
 
         exits : (r : B.Denot) → Is B r (vals PB r) → r ≡ ys → ent 𝓤 (⋆ 𝓛 (‵ (flft κ q) ∷ fixed ∷ shared ∷ [])) (Post (val PB r))
         exits r gr e =
             qed 𝓛 (‵ (flft κ q) ∷ fixed ∷ shared ∷ []) ∵
             suffices ! _ (ends_at 𝓛 ended stayed (spec 𝓤) bound (val PB r) r (tt, tt) (tt, tt)) $ says ! e $
-            nothing ! $ move ! (1 ∷ 0 ∷ []) $ join ! $ frame ! $ fjoin ! $ pure_i ! (shr_slice_at R x (s ∷ [])) (tt, (tt, tt)) (refl, gn) $ fjoin ! $ nothing ! $ move ! (1 ∷ 0 ∷ []) $ fjoin ! $ frame ! $
+            nothing ! $ move ! (1 ∷ 0 ∷ []) $ join ! $ frame ! $ drop ! $ pure_i ! (shr_slice_at R x (s ∷ [])) (tt, (tt, tt)) (refl, gn) $ fjoin ! $ nothing ! $ move ! (1 ∷ 0 ∷ []) $ fjoin ! $ frame ! $
             owned ! B (Is B) (PB.makes M 𝓤 𝓛) r _ gr $ done !
 
         -- the row stays as long as it is
@@ -165,7 +167,7 @@ module _ (R : RattleType) (P : Plain R) (d : R.Denot) (m : ℕ) (z : List R.Deno
 
           -- the context at the loop's head: the elements; what shuts the slice; the slice's borrow and name; the row's elements; and the locals, the last first
           abbrev Inv : State ys → List (Item 𝓤)
-          Inv t = ‵ (row R q' ys b o) ∷ ‵ (fobor κ q ((arr_parts (shares R) n).part q' ys b o)) ∷ shared ∷ fixed ∷ ‵ (row R full_share (part ys z t.i) l₂ 0)
+          Inv t = ‵ (row R q' ys b o) ∷ Shut 𝓛 κ q (row R q' ys b o) ∷ shared ∷ fixed ∷ ‵ (row R full_share (part ys z t.i) l₂ 0)
               ∷ ‵ (froom ty_ptr l₁₁ 0) ∷ ‵ (fdies ty_ptr l₁₁) ∷ ‵ (froom ty_ptr l₁₀ 0) ∷ ‵ (fdies ty_ptr l₁₀) ∷ ‵ (froom (ty_int w64) l₉ 0) ∷ ‵ (fdies (ty_int w64) l₉) ∷ ‵ (froom (ty P) l₈ 0) ∷ ‵ (fdies (ty P) l₈)
               ∷ ‵ (froom ty_ptr l₇ 0) ∷ ‵ (fdies ty_ptr l₇) ∷ ‵ (froom ty_bool l₆ 0) ∷ ‵ (fdies ty_bool l₆) ∷ ‵ (froom (ty_int w64) l₅ 0) ∷ ‵ (fdies (ty_int w64) l₅) ∷ ‵ (froom (ty PB) l₄ 0) ∷ ‵ (fdies (ty PB) l₄)
               ∷ ‵ (fat full_share (ty_int w64) l₃ 0 (vint w64 t.i)) ∷ ‵ (fdies (ty_int w64) l₃) ∷ ‵ (fdies (ty PB) l₂) ∷ ‵ (fat full_share slice l₁ 0 s) ∷ ‵ (fdies slice l₁) ∷ ‵ (froom (ty PB) l₀ 0) ∷ ‵ (fdies (ty PB) l₀) ∷ []
@@ -253,8 +255,8 @@ module _ (R : RattleType) (P : Plain R) (d : R.Denot) (m : ℕ) (z : List R.Deno
             assigns ! (of_opd ! (lit ! tt)) (from ! (stop !)) (init ! 16 refl (tt, record { fits = lit< tt })) $
             forget ! 14 refl $ move ! (18 ∷ []) $ row_in ! P m z l₂ (told PB z (v ∷ []) gz) (λ _.
             -- the slice is looked into
-            move ! (25 ∷ []) $ fsplit ! $ fsplit ! $ move ! (1 ∷ []) $ fsplit ! $ move ! (28 ∷ []) $ split ! $ move ! (3 ∷ 0 ∷ []) $
-            looks_slice ! tt R (Is R) (shows 𝓛 R) (vals P) (tells P) (copies P 𝓛) ys b o (λ q'. first ! $ blocks ! $
+            move ! (25 ∷ []) $ fsplit ! $ fsplit ! $ nothing ! $ move ! (0 ∷ 2 ∷ []) $ move ! (28 ∷ []) $ split ! $ move ! (3 ∷ 0 ∷ []) $
+            looks_slice ! tt R (P.copied M 𝓤 𝓛) ys b o (λ q'. first ! $ blocks ! $
             keep ! (0 ∷ 1 ∷ 2 ∷ 4 ∷ 7 ∷ 8 ∷ 9 ∷ 10 ∷ 11 ∷ 12 ∷ 13 ∷ 14 ∷ 15 ∷ 16 ∷ 17 ∷ 18 ∷ 19 ∷ 20 ∷ 21 ∷ 22 ∷ 23 ∷ 24 ∷ 25 ∷ 26 ∷ 27 ∷ 28 ∷ 29 ∷ 30 ∷ []) $
             loops ! 𝓣 (less ys) (InvImage.wf (λ (t : State ys). n - t.i) lt-wf_rel.wf) (Inv 𝓣 q' l₀ l₁ l₂ l₃ l₄ l₅ l₆ l₇ l₈ l₉ l₁₀ l₁₁) (λ t. turn_on 𝓣 q' l₀ l₁ l₂ l₃ l₄ l₅ l₆ l₇ l₈ l₉ l₁₀ l₁₁ t (ltb t.i n) refl) begin)))))))))))))))
 

@@ -1,6 +1,6 @@
 -- A call, within a walk, of a walked function over a local row, lent as a `&mut [R]`, and of parameters that the caller was itself lent, and passes on for good: `fn g(table: &mut [R], ps..) -> Y`, with no `requires`, at any list of parameters ps and any Φ of all that was passed at entry and at exit.
 -- The row is lent for a lifetime of the call, and comes back as g left it; the other parameters go at the caller's own lifetimes (`Beside`).
---     RowOn, calls-row-on      its contract, and the call, as a step
+--     RowOn, calls_row_on      its contract, and the call, as a step
 -- The operands are read with two entries, i and j, in the place of the row's cell, of the tokens and of what is passed on: so a position that was p is p - 1.
 -- It says nothing of the crate, and can be copied as it stands. Assumes nothing.
 use mathlib.Core.Path.{◌≡◌, sym, ◌∙◌, subst}
@@ -8,8 +8,8 @@ use Prim.Native.Nat.{ℕ, suc}
 use mathlib.Core.List.{List, [], ◌∷◌}
 use lib.ListN.{length}
 use seplogic.Ra.Ura.{Ura}
-use seplogic.Ra.TreeShare.{full_share}
-use mir.Syntax.{Name, Place, Opd as Operand, Body, named, seq, call}
+use base.Fraction.{full_share}
+use mir.Syntax.{Callee, Place, Opd as Operand, Body, named, seq, call}
 use mir.Val.{Val}
 use base.Logic.{ent, sep, emp, id⊢}
 use base.Fml.{GName, fat, flft, flent}
@@ -68,7 +68,7 @@ module _ (n : ℕ) (ps : List (Slot (suc n))) (ks : Kepts ps) (R Y : RattleType)
       asks_row =
           qed 𝓛 ((‵ (flft (ν ∷ []) full_share) ⊛ raw (toks 𝓛 n κs qs)) ∷ slice_row ∷ ‵ (owns (types_at ps (ν ∷ [], κs)) a vss) ∷ []) ∵ nothing ! $ move ! (2 ∷ 3 ∷ []) $ fjoin ! $ move ! (2 ∷ 0 ∷ []) $ join ! $ frame ! $ done !
 
-module _ {M : Type 1} {𝓤 : Ura M} {𝓛 : Logic 𝓤} {K : Type 0} {Γ : List (Item 𝓤)} {E : Env 𝓤 𝓛.H} {C : Calls 𝓤 𝓛.H} {k : Name} {xs : List Operand} {Λ : Loops 𝓤 𝓛.H} {q : Post 𝓤 𝓛.H} {d : Place} where
+module _ {M : Type 1} {𝓤 : Ura M} {𝓛 : Logic 𝓤} {K : Type 0} {Γ : List (Item 𝓤)} {E : Env 𝓤 𝓛.H} {C : Calls 𝓤 𝓛.H} {k : Callee} {xs : List Operand} {Λ : Loops 𝓤 𝓛.H} {q : Post 𝓤 𝓛.H} {d : Place} where
   open 𝓛 use {H}
 
   pub calls_row_on : K → FmC 𝓤 H 𝓛.laws C → {rest : Body} (n : ℕ) (ps : List (Slot (suc n))) (ks : Kepts ps) {R : RattleType} (P : Plain R) (m : ℕ) (Y : RattleType) (Φ : (κs : Lfts (suc n)) → List R.Denot → Denots (types_at ps κs) → List R.Denot → Outs κs ps ks → Y.Denot → Type 0) → Triple 𝓤 (C k) (RowOn n ps ks R Y Φ 𝓛)
@@ -86,9 +86,9 @@ module _ {M : Type 1} {𝓤 : Ura M} {𝓛 : Logic 𝓤} {K : Type 0} {Γ : List
       move t (4 ∷ []) $ use1 𝓛 (‵ (owns (types_at ps (ν ∷ [], κs)) (a ν) (vss ν))) (gives ν) $ move t (3 ∷ 4 ∷ []) $ join t $ move t (0 ∷ 2 ∷ 1 ∷ []) $
       use3 𝓛 (raw ((RowOn n ps ks R Y Φ 𝓛).pre (at_row n ps ks R Y Φ 𝓛 κs qs ν l δ ys (a ν) (vss ν)))) (asks_row n ps ks R Y Φ 𝓛 κs qs ν l δ ys (a ν) (vss ν)) $
       calls_at t fm (RowOn n ps ks R Y Φ 𝓛) known (at_row n ps ks R Y Φ 𝓛 κs qs ν l δ ys (a ν) (vss ν)) (counted e ν _ _) (λ v.
-      use1 𝓛 (later (some (λ (r : Y.Denot). ((‵ (flft (ν ∷ []) full_share) ⊛ raw (toks 𝓛 n κs qs)) ⊛ ‵ (Y.own r (v ∷ [])))
+      use1 𝓛 (later (some (λ (r : Y.Denot). ((‵ (flft (ν ∷ []) full_share) ⊛ raw (toks 𝓛 n κs qs)) ⊛ ‵ (Y.own_val r (v ∷ [])))
       ⊛ some (λ (ws : Lasts (ended_row n ps ks R Y) (ν ∷ [], κs) (ref_row n ps ks R Y Φ 𝓛 κs qs ν l δ ys (a ν) (vss ν), a ν)). ‵ (lasts (ended_row n ps ks R Y) (ν ∷ [], κs) (ref_row n ps ks R Y Φ 𝓛 κs qs ν l δ ys (a ν) (vss ν), a ν) ws) ⊛ raw (fact 𝓤 (Φ (ν ∷ [], κs) ys (a ν) ws.0 (outs (ν ∷ [], κs) ps ks (a ν) ws.1) r)))))) (id⊢ 𝓤 _) $ await t tt $ pick t (λ r.
-      split t $ move t (1 ∷ []) $ pick t (λ ws. split t $ move t (1 ∷ []) $ heard t (Φ (ν ∷ [], κs) ys (a ν) ws.0 (outs (ν ∷ [], κs) ps ks (a ν) ws.1) r) (λ said. fsplit t $ fsplit t $ move t (1 ∷ []) $ drop t $
+      split t $ move t (1 ∷ []) $ pick t (λ ws. split t $ move t (1 ∷ []) $ heard t (Φ (ν ∷ [], κs) ys (a ν) ws.0 (outs (ν ∷ [], κs) ps ks (a ν) ws.1) r) (λ said. fsplit t $ fsplit t $ move t (1 ∷ []) $ drop t $ fsplit t $ move t (1 ∷ []) $ drop t $
       -- [the last list; what says the last values; the tokens and the result; the lender's part; …]
       move t (2 ∷ []) $ split t $ move t (1 ∷ []) $ peeks t Y (Is Y) (shows 𝓛 Y) r (v ∷ []) (λ g. drop t $ split t $ lft_end t tt $ move t (0 ∷ 4 ∷ 2 ∷ []) $
       use3 𝓛 (later (‵ ((Arr (mem R) (length ys)).own_at ws.0 l 0))) (slice_back 𝓛 R (ν ∷ []) δ ws.0 (length ys) l 0) $ await t tt $ fsplit t $ feq_l t (λ e'. use1 𝓛 (‵ (row R full_share ws.0 l 0)) (whole_out 𝓛 R ws.0 l 0) $

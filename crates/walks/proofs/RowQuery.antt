@@ -10,27 +10,27 @@ use mathlib.Core.List.{List, [], ◌∷◌}
 use lib.ListN.{length}
 use lib.Dec.{T, ltb, eqb, eqb→eq}
 use seplogic.Ra.Ura.{Ura}
-use seplogic.Ra.TreeShare.{full_share}
-use mir.Syntax.{Name, Ty, Fn, Body, named, imm, w64, ty_int, ty_bool, ty_ref, field, place, copy, int, local, value_local, skip, seq, assign, cond, call, return, rv_opd, op2, ne}
+use base.Fraction.{full_share}
+use mir.Syntax.{Callee, Ty, Fn, Body, named, imm, w64, ty_int, ty_bool, ty_ref, field, place, copy, int, local, value_local, skip, seq, assign, cond, call, return, rv_opd, op2, ne}
 use mir.Val.{vbool, Val}
 use base.Logic.{SProp, ent, emp, via, fst∗, id⊢}
-use base.Fml.{Lft, GName, Share, ftrue, fat, froom, fdies, flft, fres, fobor, fshr_bor}
+use base.Fml.{Lft, GName, Share, ftrue, fat, froom, fdies, flft, fhide}
 use prog.Wp.{Env, Calls, Loops, WpFn, Tables}
 use types.Logic.{Logic}
 use sound.WpLaws.{FmC, fm_of, WpFn-mono}
 use types.Kit.{Item, Sq, runs, at_ret, ‵, ◌⊛◌, ⋆, ◌$◌, ◌∵◌, !, qed, by, move, keep, split, join, rewrite, fsplit, fjoin, suffices, frame, done}
 use types.Part.{whole, sub, look_in}
 use types.Run.{look, init, forget, stop, fld, from, load, lit, of_opd, bin, and_then, no_more, land, assigns, first, branches, skips, exec, returns, returns_within, enter, alloc1, alloc0, params1, pass1, pass0}
-use types.Share.{arr_parts}
 use contract.Monad.{fact}
 use denote.Array.{Array}
 use denote.Exit.{yes}
 use denote.RattleType.{RattleType, owns}
 use denote.Shadow.{pure_i}
-use denote.Laws.{Is, shows}
-use denote.Memory.{shares, pointee}
+use denote.Laws.{Is}
+use denote.Memory.{pointee}
 use denote.Ref.{Bor}
-use denote.Slice.{slice_ty, slice_val, ShrSlice, Room, shr_slice_vals, shr_slice_Tells, heres, coded_holeys, shr_slice_at}
+use denote.Slice.{slice_ty, slice_val, ShrSlice, Room, shr_slice_vals, shr_slice_Tells, shr_slice_at, elements_shared}
+use denote.Opens.{Shut}
 use denote.Index.{row, looks_slice, shuts_slice}
 use denote.Signature.{Signature, plain, shr_slice_of}
 use denote.Triple.Entry.{Vals, on_entry}
@@ -39,7 +39,7 @@ use denote.Triple.Statement.{Triple}
 use denote.Triple.Spec.{Meets}
 use denote.Triple.Clauses.{Clauses, Ended, closing}
 use denote.Triple.Walked.{says, Stays, stay_none_slice, walk_of, Walks, ends_at, walked, Goes-none_slice, walk_Meets}
-use Rattle.walks.proofs.Plain.{Plain, array, ty, val, vals, tells, told, fits_at, copies}
+use Rattle.walks.proofs.Plain.{Plain, array, ty, val, vals, tells, told, fits_at}
 use Rattle.walks.proofs.ByValue.{Value0, Value2, calls0, calls2}
 use Rattle.walks.proofs.Frees.{free_all}
 use Rattle.walks.proofs.RowLend.{ShrRow, AnyRow, calls_shr, calls_any}
@@ -66,15 +66,17 @@ module _ (R D Y : RattleType) (P : Plain R) (m : ℕ) (PD : Plain D) (PY : Plain
   slice = slice_ty (ty_ref (named 0) imm (pointee R.written))
 
   -- the locals: the result, table, a number, the test, the row, and what scan returns. kᵣ, kₗ, kₛ and k are the keys of refuse, load, scan and core
-  abbrev pub work : Name → Name → Name → Body
+  abbrev pub work : Callee → Callee → Callee → Body
   work kₗ kₛ k = seq (call kₗ (copy (place 1 []) ∷ []) (place 4 []))
       (seq (call kₛ (copy (place 1 []) ∷ []) (place 5 []))
       (seq (call k (copy (place 4 []) ∷ copy (place 5 []) ∷ []) (place 0 [])) return))
 
-  abbrev pub function : Name → Name → Name → Name → Fn
+  abbrev pub function : Callee → Callee → Callee → Callee → Fn
   function kᵣ kₗ kₛ k = record {
     lifetimes = 1;
     outlives = [];
+    ty_params = [];
+    givens = 0;
     params = 1;
     locals = local (ty PY) value_local ∷ local slice value_local ∷ local (ty_int w64) value_local ∷ local ty_bool value_local ∷ local (ty PR) value_local ∷ local (ty PD) value_local ∷ [];
     body = seq (assign (place 2 []) (rv_opd (copy (place 1 (field 1 ∷ [])))))
@@ -92,7 +94,7 @@ module _ (R D Y : RattleType) (P : Plain R) (m : ℕ) (PD : Plain D) (PY : Plain
   spec 𝓤 κs a = record { ghost = Unit {0}; requires = λ _. emp 𝓤; ensures = λ _ r _. fact 𝓤 (Φ a.0.now r) }
 
   module _ (small : T (ltb m (2 ^ 64))) (accepts : (ys : List R.Denot) → length ys ≡ m → Φ ys (f ys (sc ys))) (refuses : (ys : List R.Denot) → eqb (length ys) m ≡ false → Φ ys refused) where
-    module _ {M : Type 1} {𝓤 : Ura M} (𝓛 : Logic 𝓤) (kᵣ kₗ kₛ k : Name) where
+    module _ {M : Type 1} {𝓤 : Ura M} (𝓛 : Logic 𝓤) (kᵣ kₗ kₛ k : Callee) where
       open 𝓛 use {H}
 
       module _ (κ : Lft) (q : Share) (b o : ℕ) (γ : GName) (ys : List R.Denot) (gn : Room R (length ys)) where
@@ -116,16 +118,16 @@ module _ (R D Y : RattleType) (P : Plain R) (m : ℕ) (PD : Plain D) (PY : Plain
 
         -- the names under which the slice is held
         abbrev shared : Item 𝓤
-        shared = ‵ (fshr_bor κ (λ t. (arr_parts (shares R) n).part t ys b o))
+        shared = ‵ (fhide (elements_shared R ys b o κ))
 
         abbrev fixed : Item 𝓤
-        fixed = ‵ (fres γ ((coded_holeys R).code (heres R ys)))
+        fixed = ‵ ftrue
 
         exits : (r : Y.Denot) → Is Y r (vals PY r) → Φ ys r → ent 𝓤 (⋆ 𝓛 (‵ (flft κ q) ∷ fixed ∷ shared ∷ [])) (Post (val PY r))
         exits r gr e =
             qed 𝓛 (‵ (flft κ q) ∷ fixed ∷ shared ∷ []) ∵
             suffices ! _ (ends_at 𝓛 ended stayed (spec 𝓤) bound (val PY r) r (tt, tt) (tt, tt)) $ says ! e $
-            nothing ! $ move ! (1 ∷ 0 ∷ []) $ join ! $ frame ! $ fjoin ! $ pure_i ! (shr_slice_at R x (s ∷ [])) (tt, (tt, tt)) (refl, gn) $ fjoin ! $ nothing ! $ move ! (1 ∷ 0 ∷ []) $ fjoin ! $ frame ! $
+            nothing ! $ move ! (1 ∷ 0 ∷ []) $ join ! $ frame ! $ keep ! (1 ∷ []) $ pure_i ! (shr_slice_at R x (s ∷ [])) (tt, (tt, tt)) (refl, gn) $ fjoin ! $ nothing ! $ move ! (1 ∷ 0 ∷ []) $ fjoin ! $ frame ! $
             owned ! Y (Is Y) (PY.makes M 𝓤 𝓛) r _ gr $ done !
 
         module _ (C : Calls 𝓤 H) (Λ : Loops 𝓤 H) (fm : FmC 𝓤 H 𝓛.laws C) (known-refuse : Triple 𝓤 (C kᵣ) (Value0 Y refused 𝓛)) (known-load : Triple 𝓤 (C kₗ) (ShrRow R Row Eight loaded 𝓛)) (known-scan : Triple 𝓤 (C kₛ) (AnyRow [] tt R D (λ κs ys a r. r ≡ sc ys) 𝓛)) (known : Triple 𝓤 (C k) (Value2 Row D Y f 𝓛)) where
@@ -135,7 +137,7 @@ module _ (R D Y : RattleType) (P : Plain R) (m : ℕ) (PD : Plain D) (PY : Plain
 
             -- the elements; what shuts the slice; the slice's borrow and name; and the locals, the last first
             abbrev Before : List (Item 𝓤)
-            Before = ‵ (row R q' ys b o) ∷ ‵ (fobor κ q ((arr_parts (shares R) n).part q' ys b o)) ∷ shared ∷ fixed
+            Before = ‵ (row R q' ys b o) ∷ Shut 𝓛 κ q (row R q' ys b o) ∷ shared ∷ fixed
                 ∷ ‵ (froom (ty PD) l₅ 0) ∷ ‵ (fdies (ty PD) l₅) ∷ ‵ (froom (ty PR) l₄ 0) ∷ ‵ (fdies (ty PR) l₄) ∷ ‵ (froom ty_bool l₃ 0) ∷ ‵ (fdies ty_bool l₃) ∷ ‵ (froom (ty_int w64) l₂ 0) ∷ ‵ (fdies (ty_int w64) l₂)
                 ∷ ‵ (fat full_share slice l₁ 0 s) ∷ ‵ (fdies slice l₁) ∷ ‵ (froom (ty PY) l₀ 0) ∷ ‵ (fdies (ty PY) l₀) ∷ []
 
@@ -157,9 +159,9 @@ module _ (R D Y : RattleType) (P : Plain R) (m : ℕ) (PD : Plain D) (PY : Plain
                 assigns ! (bin ! (load ! (from ! (stop !)) (look ! 10 refl)) (lit ! small) tt) (from ! (stop !)) (init ! 8 refl (tt, tt)) $
                 rewrite ! 8 (λ (z : Bool). ‵ (fat full_share ty_bool l₃ 0 (vbool (not z)))) e refl $
                 first ! $ branches ! (load ! (from ! (stop !)) (look ! 8 refl)) (λ z. absurd z) (λ _. skips ! $ exec ! C Λ E (work kₗ kₛ k) (at_ret E Post) $
-                calls_shr ! fm R Row Eight loaded known-load q' ys b o gn is_eight (λ i j. and_then ! (load ! (from ! (stop !)) (look ! 13 refl)) (no_more !)) (λ u gu.
+                calls_shr ! fm R Row P Eight loaded known-load q' ys b o gn is_eight (λ i j. and_then ! (load ! (from ! (stop !)) (look ! 13 refl)) (no_more !)) (λ u gu.
                 land ! (from ! (stop !)) (init ! 6 refl (fits_at PR 𝓛 ys u gu)) $ rewrite ! 6 (λ (z : Val). ‵ (fat full_share (ty PR) l₄ 0 z)) (ap only (tells PR ys (u ∷ []) gu)) refl $
-                calls_any ! fm [] tt R D (λ κs ys a r. r ≡ sc ys) known-scan q' ys b o gn (λ ν. tt) (λ ν. tt) (λ ν. id⊢ 𝓤 (emp 𝓤)) (λ ν i j. and_then ! (load ! (from ! (stop !)) (look ! 13 refl)) (no_more !)) (λ ν w d g e'.
+                calls_any ! fm [] tt R D P (λ κs ys a r. r ≡ sc ys) known-scan q' ys b o gn (λ ν. tt) (λ ν. tt) (λ ν. id⊢ 𝓤 (emp 𝓤)) (λ ν i j. and_then ! (load ! (from ! (stop !)) (look ! 13 refl)) (no_more !)) (λ ν w d g e'.
                 land ! (from ! (stop !)) (init ! 4 refl (fits_at PD 𝓛 (sc ys) w (scanned w d g e'))) $ rewrite ! 4 (λ (z : Val). ‵ (fat full_share (ty PD) l₅ 0 z)) (ap only (tells PD (sc ys) (w ∷ []) (scanned w d g e'))) refl $
                 calls2 ! fm PR PD Y f known ys (val PR ys) (told PR ys (u ∷ []) gu) (sc ys) (val PD (sc ys)) (told PD (sc ys) (w ∷ []) (scanned w d g e')) (and_then ! (load ! (from ! (stop !)) (look ! 6 refl)) (and_then ! (load ! (from ! (stop !)) (look ! 4 refl)) (no_more !))) (λ v gv.
                 land ! (from ! (stop !)) (init ! 14 refl (fits_at PY 𝓛 (f ys (sc ys)) v gv)) $ rewrite ! 14 (λ (z : Val). ‵ (fat full_share (ty PY) l₀ 0 z)) (ap only (tells PY (f ys (sc ys)) (v ∷ []) gv)) refl $
@@ -179,8 +181,8 @@ module _ (R D Y : RattleType) (P : Plain R) (m : ℕ) (PD : Plain D) (PY : Plain
               alloc1 ! (λ l₀. alloc1 ! (λ l₁. alloc1 ! (λ l₂. alloc1 ! (λ l₃. alloc1 ! (λ l₄. alloc1 ! (λ l₅. alloc0 ! $ params1 ! $
               pass1 ! (init ! 8 refl (tt, (tt, (record { fits = gn.0 }, tt)))) $ pass0 ! $
               -- the slice is looked into
-              move ! (13 ∷ []) $ fsplit ! $ fsplit ! $ move ! (1 ∷ []) $ fsplit ! $ move ! (16 ∷ []) $ split ! $ move ! (3 ∷ 0 ∷ []) $
-              looks_slice ! tt R (Is R) (shows 𝓛 R) (vals P) (tells P) (copies P 𝓛) ys b o (λ q'.
+              move ! (13 ∷ []) $ fsplit ! $ fsplit ! $ nothing ! $ move ! (0 ∷ 2 ∷ []) $ move ! (16 ∷ []) $ split ! $ move ! (3 ∷ 0 ∷ []) $
+              looks_slice ! tt R (P.copied M 𝓤 𝓛) ys b o (λ q'.
               keep ! (0 ∷ 1 ∷ 2 ∷ 4 ∷ 7 ∷ 8 ∷ 9 ∷ 10 ∷ 11 ∷ 12 ∷ 13 ∷ 14 ∷ 15 ∷ 16 ∷ 17 ∷ 18 ∷ []) $
               body_on q' l₀ l₁ l₂ l₃ l₄ l₅ (eqb n m) refl)))))))
 

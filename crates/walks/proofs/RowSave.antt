@@ -12,7 +12,7 @@ use lib.WfN.{lt-wf_rel}
 use lib.ListN.{length, get_or}
 use lib.Dec.{T, ltb, ltb→lt, nltb→le, lit<}
 use seplogic.Ra.Ura.{Ura}
-use seplogic.Ra.TreeShare.{full_share}
+use base.Fraction.{full_share}
 use mir.Syntax.{Ty, Fn, Body, named, mut, w64, ty_unit, ty_int, ty_bool, ty_ptr, ty_ref, deref, field, place, copy, int, opd_unit, local, value_local, memory_slot, unsigned, skip, seq, assign, block, loop, cond, exit, return, rv_opd, addr_of, op2, add, mul, lt, offset}
 use mir.Val.{vunit, vbool, vint, vptr, Val}
 use base.Logic.{SProp, ent}
@@ -83,6 +83,8 @@ module _ (R : RattleType) (P : Plain R) (d : R.Denot) (m : ℕ) where
   function = record {
     lifetimes = 1;
     outlives = [];
+    ty_params = [];
+    givens = 0;
     params = 2;
     locals = local ty_unit value_local ∷ local (slice_ty (ty_ref (named 0) mut (pointee R.written))) value_local ∷ local (ty PB) value_local ∷ local (ty PB) memory_slot ∷ local (ty_int w64) value_local ∷ local (ty_int w64) value_local ∷ local ty_bool value_local ∷ local ty_ptr value_local ∷ local ty_ptr value_local ∷ local (ty P) value_local ∷ local (ty_int w64) value_local ∷ local ty_ptr value_local ∷ [];
     body = seq (assign (place 3 []) (rv_opd (copy (place 2 [])))) (seq (assign (place 4 []) (rv_opd (int w64 0))) (seq (block (loop turn)) after));

@@ -15,11 +15,11 @@ use lib.ListN.{length, get_or, drop, drop_of_length-le}
 use lib.Seq.{drop-cons}
 use lib.Dec.{T, ltb, ltb→lt, nltb→le, lit<}
 use seplogic.Ra.Ura.{Ura}
-use seplogic.Ra.TreeShare.{full_share}
-use mir.Syntax.{Name, Ty, Fn, Body, Rv, named, imm, w64, ty_int, ty_bool, ty_ptr, ty_ref, deref, field, place, copy, int, local, value_local, unsigned, skip, seq, assign, block, loop, cond, exit, call, return, rv_opd, op2, add, mul, lt, offset}
+use base.Fraction.{full_share}
+use mir.Syntax.{Callee, Ty, Fn, Body, Rv, named, imm, w64, ty_int, ty_bool, ty_ptr, ty_ref, deref, field, place, copy, int, local, value_local, unsigned, skip, seq, assign, block, loop, cond, exit, call, return, rv_opd, op2, add, mul, lt, offset}
 use mir.Val.{vbool, vint, vptr, Val}
 use base.Logic.{SProp, ent, emp, via, fst∗}
-use base.Fml.{Lft, GName, Share, ftrue, fat, froom, fdies, flft, fres, fobor, fshr_bor}
+use base.Fml.{Lft, GName, Share, ftrue, fat, froom, fdies, flft, fhide}
 use prog.Wp.{Env, Calls, Loops, Wp, WpFn, Tables, after_seq, after_block, after_turn, at_return}
 use types.Logic.{Logic}
 use sound.WpLaws.{FmC, fm_of, WpFn-mono}
@@ -28,15 +28,15 @@ use types.Kit.{Go, Item, Sq, runs, any_q, at_ret, ‵, ◌⊛◌, ⋆, ◌$◌, 
 use types.Part.{whole, sub, look_in}
 use types.Run as Run
 use types.Run.{look, look_raw, init, store, forget, stop, hop, fld, from, load, lit, of_opd, bin, and_then, no_more, land, assigns, assigns_last, first, blocks, stays, leaves_loop, exec, Below, again, loops, returns, enter, alloc1, alloc0, params1, pass1, pass0, free1, free0}
-use types.Share.{arr_parts}
 use contract.Monad.{fact}
 use denote.Exit.{yes}
 use denote.RattleType.{RattleType, owns}
 use denote.Shadow.{pure_i}
 use denote.Laws.{Is, shows}
-use denote.Memory.{mem, shares, pointee}
+use denote.Memory.{mem, pointee}
 use denote.Ref.{Bor}
-use denote.Slice.{slice_ty, slice_val, ShrSlice, Room, shr_slice_vals, shr_slice_Tells, heres, coded_holeys, shr_slice_at}
+use denote.Slice.{slice_ty, slice_val, ShrSlice, Room, shr_slice_vals, shr_slice_Tells, shr_slice_at, elements_shared}
+use denote.Opens.{Shut}
 use denote.Index.{place as place_of, place_is, row, elem_out, elem_back, looks_slice, shuts_slice}
 use denote.Signature.{Signature, plain, shr_slice_of}
 use denote.Triple.Entry.{Vals, on_entry}
@@ -45,7 +45,7 @@ use denote.Triple.Statement.{Triple}
 use denote.Triple.Spec.{Meets}
 use denote.Triple.Clauses.{Clauses, Ended, closing}
 use denote.Triple.Walked.{says, Stays, stay_none_slice, walk_of, Walks, ends_at, walked, Goes-none_slice, walk_Meets}
-use Rattle.walks.proofs.Plain.{Plain, ty, val, vals, tells, told, fits, fits_at, copies, bares, wraps}
+use Rattle.walks.proofs.Plain.{Plain, ty, val, vals, tells, told, fits, fits_at, bares, wraps}
 use Rattle.walks.proofs.ByValue.{Value2, calls2}
 use Rattle.walks.proofs.Lists.{below}
 
@@ -58,14 +58,14 @@ module _ (R B : RattleType) (P : Plain R) (PB : Plain B) (d : R.Denot) (f : B.De
   size = (mem R).size
 
   -- the locals: the result, t, best, i, a number, the test, the place of `t[i]`, and what is read there. k is g's key
-  abbrev pub more : Name → Body
+  abbrev pub more : Callee → Body
   more k = seq (assign (place 4 []) (op2 (mul unsigned) (copy (place 3 [])) (int w64 size)))
       (seq (assign (place 6 []) (op2 offset (copy (place 1 (field 0 ∷ []))) (copy (place 4 []))))
       (seq (assign (place 7 []) (rv_opd (copy (place 6 (deref (ty P) ∷ [])))))
       (seq (call k (copy (place 2 []) ∷ copy (place 7 []) ∷ []) (place 2 []))
       (assign (place 3 []) (op2 (add unsigned) (copy (place 3 [])) (int w64 1))))))
 
-  abbrev pub turn : Name → Body
+  abbrev pub turn : Callee → Body
   turn k = seq (assign (place 4 []) (rv_opd (copy (place 1 (field 1 ∷ [])))))
       (seq (assign (place 5 []) (op2 (lt unsigned) (copy (place 3 [])) (copy (place 4 []))))
       (seq (cond (copy (place 5 [])) skip (exit 1)) (more k)))
@@ -73,10 +73,12 @@ module _ (R B : RattleType) (P : Plain R) (PB : Plain B) (d : R.Denot) (f : B.De
   abbrev pub after : Body
   after = seq (assign (place 0 []) (rv_opd (copy (place 2 [])))) return
 
-  abbrev pub function : Name → Fn
+  abbrev pub function : Callee → Fn
   function k = record {
     lifetimes = 1;
     outlives = [];
+    ty_params = [];
+    givens = 0;
     params = 1;
     locals = local (ty PB) value_local ∷ local (slice_ty (ty_ref (named 0) imm (pointee R.written))) value_local ∷ local (ty PB) value_local ∷ local (ty_int w64) value_local ∷ local (ty_int w64) value_local ∷ local ty_bool value_local ∷ local ty_ptr value_local ∷ local (ty P) value_local ∷ [];
     body = seq (assign (place 2 []) rv) (seq (assign (place 3 []) (rv_opd (int w64 0))) (seq (block (loop (turn k))) after));
@@ -104,7 +106,7 @@ module _ (R B : RattleType) (P : Plain R) (PB : Plain B) (d : R.Denot) (f : B.De
   less ys s t = length ys - s.i < length ys - t.i
 
   module _ (small : T (ltb size (2 ^ 64))) (start_is : Is B start (vals PB start)) (none : (b : B.Denot) → fold b [] ≡ b) (one_more : (b : B.Denot) (c : R.Denot) (cs : List R.Denot) → fold b (c ∷ cs) ≡ fold (f b c) cs) where
-    module _ {M : Type 1} {𝓤 : Ura M} (𝓛 : Logic 𝓤) (made : (Γ : List (Item 𝓤)) (E : Env 𝓤 𝓛.H) → Run.Rv (Go {0}) 𝓛 Γ E rv (val PB start)) (k : Name) where
+    module _ {M : Type 1} {𝓤 : Ura M} (𝓛 : Logic 𝓤) (made : (Γ : List (Item 𝓤)) (E : Env 𝓤 𝓛.H) → Run.Rv (Go {0}) 𝓛 Γ E rv (val PB start)) (k : Callee) where
       open 𝓛 use {H}
 
       module _ (κ : Lft) (q : Share) (b o : ℕ) (γ : GName) (ys : List R.Denot) (gn : Room R (length ys)) where
@@ -128,16 +130,16 @@ module _ (R B : RattleType) (P : Plain R) (PB : Plain B) (d : R.Denot) (f : B.De
 
         -- the names under which the slice is held
         abbrev shared : Item 𝓤
-        shared = ‵ (fshr_bor κ (λ t. (arr_parts (shares R) n).part t ys b o))
+        shared = ‵ (fhide (elements_shared R ys b o κ))
 
         abbrev fixed : Item 𝓤
-        fixed = ‵ (fres γ ((coded_holeys R).code (heres R ys)))
+        fixed = ‵ ftrue
 
         exits : (r : B.Denot) → Is B r (vals PB r) → r ≡ fold start ys → ent 𝓤 (⋆ 𝓛 (‵ (flft κ q) ∷ fixed ∷ shared ∷ [])) (Post (val PB r))
         exits r gr e =
             qed 𝓛 (‵ (flft κ q) ∷ fixed ∷ shared ∷ []) ∵
             suffices ! _ (ends_at 𝓛 ended stayed (spec 𝓤) bound (val PB r) r (tt, tt) (tt, tt)) $ says ! e $
-            nothing ! $ move ! (1 ∷ 0 ∷ []) $ join ! $ frame ! $ fjoin ! $ pure_i ! (shr_slice_at R x (s ∷ [])) (tt, (tt, tt)) (refl, gn) $ fjoin ! $ nothing ! $ move ! (1 ∷ 0 ∷ []) $ fjoin ! $ frame ! $
+            nothing ! $ move ! (1 ∷ 0 ∷ []) $ join ! $ frame ! $ keep ! (1 ∷ []) $ pure_i ! (shr_slice_at R x (s ∷ [])) (tt, (tt, tt)) (refl, gn) $ fjoin ! $ nothing ! $ move ! (1 ∷ 0 ∷ []) $ fjoin ! $ frame ! $
             owned ! B (Is B) (PB.makes M 𝓤 𝓛) r _ gr $ done !
 
         module _ (𝓣 : Tables 𝓤 H) (fm : FmC 𝓤 H 𝓛.laws 𝓣.C) (known : Triple 𝓤 (𝓣.C k) (Value2 B R B f 𝓛)) (q' : Share) (l₀ l₁ l₂ l₃ l₄ l₅ l₆ l₇ : ℕ) where
@@ -155,7 +157,7 @@ module _ (R B : RattleType) (P : Plain R) (PB : Plain B) (d : R.Denot) (f : B.De
 
           -- the context at the loop's head: the elements; what shuts the slice; the slice's borrow and name; and the locals, the last first
           abbrev Inv : State ys → List (Item 𝓤)
-          Inv t = ‵ (row R q' ys b o) ∷ ‵ (fobor κ q ((arr_parts (shares R) n).part q' ys b o)) ∷ shared ∷ fixed
+          Inv t = ‵ (row R q' ys b o) ∷ Shut 𝓛 κ q (row R q' ys b o) ∷ shared ∷ fixed
               ∷ ‵ (froom (ty P) l₇ 0) ∷ ‵ (fdies (ty P) l₇) ∷ ‵ (froom ty_ptr l₆ 0) ∷ ‵ (fdies ty_ptr l₆) ∷ ‵ (froom ty_bool l₅ 0) ∷ ‵ (fdies ty_bool l₅) ∷ ‵ (froom (ty_int w64) l₄ 0) ∷ ‵ (fdies (ty_int w64) l₄)
               ∷ ‵ (fat full_share (ty_int w64) l₃ 0 (vint w64 t.i)) ∷ ‵ (fdies (ty_int w64) l₃) ∷ ‵ (fat full_share (ty PB) l₂ 0 (val PB t.best)) ∷ ‵ (fdies (ty PB) l₂)
               ∷ ‵ (fat full_share slice l₁ 0 s) ∷ ‵ (fdies slice l₁) ∷ ‵ (froom (ty PB) l₀ 0) ∷ ‵ (fdies (ty PB) l₀) ∷ []
@@ -233,8 +235,8 @@ module _ (R B : RattleType) (P : Plain R) (PB : Plain B) (d : R.Denot) (f : B.De
             assigns ! (made _ _) (from ! (stop !)) (init ! 10 refl (fits PB 𝓛 start start_is)) $
             assigns ! (of_opd ! (lit ! tt)) (from ! (stop !)) (init ! 8 refl (tt, record { fits = lit< tt })) $
             -- the slice is looked into
-            move ! (17 ∷ []) $ fsplit ! $ fsplit ! $ move ! (1 ∷ []) $ fsplit ! $ move ! (20 ∷ []) $ split ! $ move ! (3 ∷ 0 ∷ []) $
-            looks_slice ! tt R (Is R) (shows 𝓛 R) (vals P) (tells P) (copies P 𝓛) ys b o (λ q'. first ! $ blocks ! $
+            move ! (17 ∷ []) $ fsplit ! $ fsplit ! $ nothing ! $ move ! (0 ∷ 2 ∷ []) $ move ! (20 ∷ []) $ split ! $ move ! (3 ∷ 0 ∷ []) $
+            looks_slice ! tt R (P.copied M 𝓤 𝓛) ys b o (λ q'. first ! $ blocks ! $
             keep ! (0 ∷ 1 ∷ 2 ∷ 4 ∷ 7 ∷ 8 ∷ 9 ∷ 10 ∷ 11 ∷ 12 ∷ 13 ∷ 14 ∷ 15 ∷ 16 ∷ 17 ∷ 18 ∷ 19 ∷ 20 ∷ 21 ∷ 22 ∷ []) $
             loops ! 𝓣 (less ys) (InvImage.wf (λ (t : State ys). n - t.i) lt-wf_rel.wf) (Inv 𝓣 fm known q' l₀ l₁ l₂ l₃ l₄ l₅ l₆ l₇) (λ t. turn_on 𝓣 fm known q' l₀ l₁ l₂ l₃ l₄ l₅ l₆ l₇ t (ltb t.i n) refl) begin)))))))))
 

@@ -7,8 +7,8 @@ use mathlib.Core.Path.{refl}
 use Prim.Native.Nat.{ℕ}
 use mathlib.Core.List.{List, [], ◌∷◌}
 use seplogic.Ra.Ura.{Ura}
-use seplogic.Ra.TreeShare.{full_share}
-use mir.Syntax.{Name, Fn, named, mut, ty_ref, deref, field, place, copy, local, value_local, seq, assign, call, return, rv_opd}
+use base.Fraction.{full_share}
+use mir.Syntax.{Callee, Fn, named, mut, ty_ref, deref, field, place, copy, local, value_local, seq, assign, call, return, rv_opd}
 use mir.Val.{vptr, Val}
 use base.Logic.{SProp, ent, emp, via, fst∗}
 use base.Fml.{Lft, GName, Share, ftrue, fat, flft, fobs, fbor}
@@ -42,10 +42,12 @@ module _ (R X Y S : RattleType) (P : Plain R) (PX : Plain X) (PY : Plain Y) (B :
   signature = record { lifetimes = 1; outlives = []; params = mut_ref_to (0 ∷ []) tt (plain (λ _. R)) ∷ plain (λ _. X) ∷ []; result = plain (λ _. Y) }
 
   -- the locals: the result, c, x, what g returns, and what it is passed. k is g's key
-  abbrev pub function : Name → Fn
+  abbrev pub function : Callee → Fn
   function k = record {
     lifetimes = 1;
     outlives = [];
+    ty_params = [];
+    givens = 0;
     params = 2;
     locals = local (ty PY) value_local ∷ local (ty_ref (named 0) mut (pointee R.written)) value_local ∷ local (ty PX) value_local ∷ local (struct_ty B) value_local ∷ local (ty P) value_local ∷ [];
     body = seq (assign (place 4 []) (rv_opd (copy (place 1 (deref (ty P) ∷ [])))))
@@ -91,7 +93,7 @@ module _ (R X Y S : RattleType) (P : Plain R) (PX : Plain X) (PY : Plain Y) (B :
         frame ! $ feq_i ! (List Val) (vptr b o ∷ []) (vptr b o ∷ []) refl $ fjoin3 ! $ nothing ! $ owned ! X (Is X) (PX.makes M 𝓤 𝓛) x _ gx $ fjoin ! $ move ! (1 ∷ 0 ∷ []) $ fjoin ! $
         frame ! $ owned ! Y (Is Y) (PY.makes M 𝓤 𝓛) r _ gr $ done !
 
-    module _ (C : Calls 𝓤 H) (Λ : Loops 𝓤 H) (fm : FmC 𝓤 H 𝓛.laws C) (k : Name) (known : Triple 𝓤 (C k) (Value2 R X S f 𝓛)) where
+    module _ (C : Calls 𝓤 H) (Λ : Loops 𝓤 H) (fm : FmC 𝓤 H 𝓛.laws C) (k : Callee) (known : Triple 𝓤 (C k) (Value2 R X S f 𝓛)) where
       walk : ent 𝓤 (on_entry 𝓛 signature (κ, tt) (q, tt) a at) (WpFn 𝓤 H C Λ (function k) (vptr b o ∷ val PX x ∷ []) Post)
       walk =
           qed 𝓛 ((‵ (flft κ q) ⊛ ‵ ftrue) ∷ ‵ (owns (MutRef (named 0) κ R ∷ X ∷ []) a at) ∷ []) ∵ split ! $ move ! (2 ∷ []) $ fsplit ! $ fsplit3 ! $ drop ! $ move ! (0 ∷ 1 ∷ 3 ∷ []) $
@@ -113,7 +115,7 @@ module _ (R X Y S : RattleType) (P : Plain R) (PX : Plain X) (PY : Plain Y) (B :
           move ! (11 ∷ 12 ∷ []) $ free1 ! $ move ! (9 ∷ 10 ∷ []) $ free1 ! $ move ! (7 ∷ 8 ∷ []) $ free1 ! $ move ! (5 ∷ 6 ∷ []) $ free1 ! $ move ! (3 ∷ 4 ∷ []) $ free1 ! $ free0 ! $
           keep ! (0 ∷ 1 ∷ 2 ∷ []) $ by ! (exits (B.two_is (f h x) v gs))))))))))
 
-  module _ {M : Type 1} {𝓤 : Ura M} (𝓛 : Logic 𝓤) (k : Name) where
+  module _ {M : Type 1} {𝓤 : Ura M} (𝓛 : Logic 𝓤) (k : Callee) where
     open 𝓛 use {H}
 
     step_walks : (C : Calls 𝓤 H) (Λ : Loops 𝓤 H) → FmC 𝓤 H 𝓛.laws C → Triple 𝓤 (C k) (Value2 R X S f 𝓛) → Walks 𝓛 ended stayed (WpFn 𝓤 H C Λ (function k)) (spec 𝓤)

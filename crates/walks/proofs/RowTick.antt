@@ -10,8 +10,8 @@ use mathlib.Core.List.{List, [], ◌∷◌}
 use lib.ListN.{length}
 use lib.Dec.{T, ltb, eqb, eqb→eq}
 use seplogic.Ra.Ura.{Ura}
-use seplogic.Ra.TreeShare.{full_share}
-use mir.Syntax.{Name, Ty, Fn, Body, Mutability, named, erased, imm, mut, w8, w64, ty_unit, ty_int, ty_bool, ty_ref, deref, field, place, copy, int, local, value_local, skip, seq, assign, cond, call, return, rv_opd, op2, ne, aggregate, addr_of}
+use base.Fraction.{full_share}
+use mir.Syntax.{Callee, Ty, Fn, Body, Mutability, named, erased, imm, mut, w8, w64, ty_unit, ty_int, ty_bool, ty_ref, deref, field, place, copy, int, local, value_local, skip, seq, assign, cond, call, return, rv_opd, op2, ne, aggregate, addr_of}
 use mir.Val.{vbool, Val}
 use base.Logic.{SProp, ent, emp, via, fst∗}
 use base.Fml.{Lft, GName, Share, fat, froom, fdies, flft, fobs, fbor}
@@ -31,7 +31,7 @@ use denote.Shadow.{pure_i}
 use denote.Laws.{Is, Ises, owns_make}
 use denote.Memory.{pointee}
 use denote.Ref.{Bor, MutBor}
-use denote.Slice.{slice_ty, slice_val, Room, shr_slice_vals, mut_slice_Tells, shr_slice_Tells, heres, coded_holeys, mut_slice_at}
+use denote.Slice.{slice_ty, slice_val, Room, shr_slice_vals, mut_slice_vals, mut_slice_Tells, shr_slice_Tells, heres, coded_holeys, mut_slice_at}
 use denote.Lend.{Held}
 use denote.Index.{opens_slice, closes_slice}
 use denote.Plain.{Nothing-Lawful}
@@ -105,7 +105,7 @@ module _ (R Y S X₁ D : RattleType) (P : Plain R) (m : ℕ) (PY : Plain Y) (PX�
   uniq = ty_ref erased mut (pointee R.written)
 
   -- the locals: the result, table, area, image, answer, clock, d, what core returns, a number, the test, `&*table` and the slice of it, the row, `&*table` and the slice of it, `&mut *answer` and the slice of it, (), `&mut *table` and the slice of it. kᵣ, kf, kₗ, k and kₛ are the keys of refuse, find, load, core and save
-  abbrev pub work : Name → Name → Name → Name → Body
+  abbrev pub work : Callee → Callee → Callee → Callee → Body
   work kf kₗ k kₛ = seq (assign (place 10 []) (addr_of (place 1 (field 0 ∷ deref (ty P) ∷ []))))
       (seq (assign (place 11 []) (aggregate (copy (place 10 []) ∷ copy (place 1 (field 1 ∷ [])) ∷ [])))
       (seq (call kf (copy (place 11 []) ∷ copy (place 5 []) ∷ []) (place 6 []))
@@ -120,10 +120,12 @@ module _ (R Y S X₁ D : RattleType) (P : Plain R) (m : ℕ) (PY : Plain Y) (PX�
       (seq (call kₛ (copy (place 19 []) ∷ copy (place 7 (field 1 ∷ [])) ∷ []) (place 17 []))
       (seq (assign (place 0 []) (rv_opd (copy (place 7 (field 0 ∷ []))))) return))))))))))))
 
-  abbrev pub function : Name → Name → Name → Name → Name → Fn
+  abbrev pub function : Callee → Callee → Callee → Callee → Callee → Fn
   function kᵣ kf kₗ k kₛ = record {
     lifetimes = 3;
     outlives = [];
+    ty_params = [];
+    givens = 0;
     params = 5;
     locals = local (ty PY) value_local ∷ local slice value_local ∷ local (lent 1 imm) value_local ∷ local (lent 1 imm) value_local ∷ local (lent 2 mut) value_local ∷ local (ty PX₁) value_local ∷ local (ty PD) value_local ∷ local (struct_ty B) value_local ∷ local (ty_int w64) value_local ∷ local ty_bool value_local ∷ local shr value_local ∷ local (slice_ty shr) value_local ∷ local (ty PR) value_local ∷ local shr value_local ∷ local (slice_ty shr) value_local ∷ local lent_ref value_local ∷ local (slice_ty lent_ref) value_local ∷ local ty_unit value_local ∷ local uniq value_local ∷ local (slice_ty uniq) value_local ∷ [];
     body = seq (assign (place 8 []) (rv_opd (copy (place 1 (field 1 ∷ [])))))
@@ -149,14 +151,14 @@ module _ (R Y S X₁ D : RattleType) (P : Plain R) (m : ℕ) (PY : Plain Y) (PX�
       module _ (small : T (ltb m (2 ^ 64)))
           (accepts : (ys : List R.Denot) (area : List ℕ) (image : List ℕ) (answer : List ℕ) (clock : X₁.Denot) (s : S.Denot) (answer' : List ℕ) → length ys ≡ m → φ (sc ys clock) ys area image answer clock s answer' → Φ ys area image answer clock (B.two s) answer' (B.one s))
           (refuses : (ys : List R.Denot) (area : List ℕ) (image : List ℕ) (answer : List ℕ) (clock : X₁.Denot) → eqb (length ys) m ≡ false → Φ ys area image answer clock ys answer refused)
-          {M : Type 1} {𝓤 : Ura M} (𝓛 : Logic 𝓤) (kᵣ kf kₗ k kₛ : Name) where
+          {M : Type 1} {𝓤 : Ura M} (𝓛 : Logic 𝓤) (kᵣ kf kₗ k kₛ : Callee) where
         open 𝓛 use {H}
 
-        module _ (κ : Lft) (κs : Lfts 2) (q : Share) (qs : Shares 2) (b o : ℕ) (γ : GName) (ys : List R.Denot) (gn : Room R (length ys)) (area : MutBor (List ℕ)) (image : MutBor (List ℕ)) (answer : MutBor (List ℕ)) (clock : X₁.Denot) where
+        module _ (κ : Lft) (κs : Lfts 2) (q : Share) (qs : Shares 2) (b o : ℕ) (γ : GName) (ys : List R.Denot) (gn : Room R (length ys)) (area : Bor (List ℕ)) (image : Bor (List ℕ)) (answer : MutBor (List ℕ)) (clock : X₁.Denot) where
           abbrev n : ℕ
           n = length ys
 
-          abbrev ref : List R.Denot → Bor (List R.Denot)
+          abbrev ref : List R.Denot → MutBor (List R.Denot)
           ref l = record { ref_ptr = (b, o); ghost_name = γ; now = l }
 
           abbrev s : Val
@@ -167,7 +169,7 @@ module _ (R Y S X₁ D : RattleType) (P : Plain R) (m : ℕ) (PY : Plain Y) (PX�
           on = (area, (image, (answer, (clock, tt))))
 
           abbrev ons : Valss (types_at rests κs)
-          ons = (shr_slice_vals area, (shr_slice_vals image, (shr_slice_vals answer, (vals PX₁ clock, tt))))
+          ons = (shr_slice_vals area, (shr_slice_vals image, (mut_slice_vals answer, (vals PX₁ clock, tt))))
 
           abbrev a : Args signature (κ, κs)
           a = (ref ys, on)
@@ -243,11 +245,11 @@ module _ (R Y S X₁ D : RattleType) (P : Plain R) (m : ℕ) (PY : Plain Y) (PX�
                   -- [the elements; the open borrow; obs; auth; _19; …; _0; …; the tokens; what is passed on]
                   assigns ! (addr ! (from ! (fld ! refl (hop ! (look_in ! 40 (sub ! 0 refl (whole !))) (stop !))))) (from ! (stop !)) (init ! 22 refl (tt, tt)) $
                   assigns ! (agg ! (and_then ! (load ! (from ! (stop !)) (look ! 22 refl)) (and_then ! (load ! (from ! (fld ! refl (stop !))) (look_in ! 40 (sub ! 1 refl (whole !)))) (no_more !)))) (from ! (stop !)) (init ! 20 refl (tt, (tt, (record { fits = gn.0 }, tt)))) $
-                  calls_any ! fm (plain (λ _. X₁) ∷ []) (yes, tt) R D found known-find full_share ys b o gn (λ ν. (clock, tt)) (λ ν. (vals PX₁ clock, tt)) (λ ν. clock_made) (λ ν i j. (and_then ! (load ! (from ! (stop !)) (look ! 21 refl)) (and_then ! (load ! (from ! (stop !)) (look ! 33 refl)) (no_more !)))) (λ ν x d gd d-is.
+                  calls_any ! fm (plain (λ _. X₁) ∷ []) (yes, tt) R D P found known-find full_share ys b o gn (λ ν. (clock, tt)) (λ ν. (vals PX₁ clock, tt)) (λ ν. clock_made) (λ ν i j. (and_then ! (load ! (from ! (stop !)) (look ! 21 refl)) (and_then ! (load ! (from ! (stop !)) (look ! 33 refl)) (no_more !)))) (λ ν x d gd d-is.
                   land ! (from ! (stop !)) (init ! 30 refl (fits_at PD 𝓛 d x gd)) $ rewrite ! 30 (λ (z : Val). ‵ (fat full_share (ty PD) l₆ 0 z)) (ap only (tells PD d (x ∷ []) gd)) refl $
                   assigns ! (addr ! (from ! (fld ! refl (hop ! (look_in ! 40 (sub ! 0 refl (whole !))) (stop !))))) (from ! (stop !)) (init ! 16 refl (tt, tt)) $
                   assigns ! (agg ! (and_then ! (load ! (from ! (stop !)) (look ! 16 refl)) (and_then ! (load ! (from ! (fld ! refl (stop !))) (look_in ! 40 (sub ! 1 refl (whole !)))) (no_more !)))) (from ! (stop !)) (init ! 14 refl (tt, (tt, (record { fits = gn.0 }, tt)))) $
-                  calls_shr ! fm R Row Eight loaded known-load full_share ys b o gn is_eight (λ i j. (and_then ! (load ! (from ! (stop !)) (look ! 15 refl)) (no_more !))) (λ u gu.
+                  calls_shr ! fm R Row P Eight loaded known-load full_share ys b o gn is_eight (λ i j. (and_then ! (load ! (from ! (stop !)) (look ! 15 refl)) (no_more !))) (λ u gu.
                   land ! (from ! (stop !)) (init ! 18 refl (fits_at PR 𝓛 ys u gu)) $ rewrite ! 18 (λ (z : Val). ‵ (fat full_share (ty PR) l₁₂ 0 z)) (ap only (tells PR ys (u ∷ []) gu)) refl $
                   assigns ! (addr ! (from ! (fld ! refl (hop ! (look_in ! 34 (sub ! 0 refl (whole !))) (stop !))))) (from ! (stop !)) (init ! 12 refl (tt, tt)) $
                   assigns ! (agg ! (and_then ! (load ! (from ! (stop !)) (look ! 12 refl)) (and_then ! (load ! (from ! (fld ! refl (stop !))) (look_in ! 34 (sub ! 1 refl (whole !)))) (no_more !)))) (from ! (stop !)) (init ! 10 refl (tt, (tt, (record { fits = g-answer.0 }, tt)))) $
@@ -291,7 +293,7 @@ module _ (R Y S X₁ D : RattleType) (P : Plain R) (m : ℕ) (PY : Plain Y) (PX�
 
         tick_walks : (C : Calls 𝓤 H) (Λ : Loops 𝓤 H) → FmC 𝓤 H 𝓛.laws C → Triple 𝓤 (C kᵣ) (Value0 Y refused 𝓛) → Triple 𝓤 (C kf) (Find 𝓛) → Triple 𝓤 (C kₗ) (ShrRow R Row Eight loaded 𝓛) → Triple 𝓤 (C k) (On 2 (plain (λ _. D) ∷ rests) (yes, keeps) Row S cored 𝓛) → Triple 𝓤 (C kₛ) (MutRow R Row Eight saved 𝓛)
             → Walks 𝓛 ended stayed (WpFn 𝓤 H C Λ (function kᵣ kf kₗ k kₛ)) (spec 𝓤)
-        tick_walks C Λ fm known-refuse known-find known-load known known-save = walked 𝓛 ended stayed (spec 𝓤) (WpFn 𝓤 H C Λ (function kᵣ kf kₗ k kₛ)) (λ κs. (shr_slice_vals, (shr_slice_vals, (shr_slice_vals, (shr_slice_vals, (vals PX₁, tt))))))
+        tick_walks C Λ fm known-refuse known-find known-load known known-save = walked 𝓛 ended stayed (spec 𝓤) (WpFn 𝓤 H C Λ (function kᵣ kf kₗ k kₛ)) (λ κs. (mut_slice_vals, (shr_slice_vals, (shr_slice_vals, (mut_slice_vals, (vals PX₁, tt))))))
             (λ κs. (mut_slice_Tells (named 0) κs.0 R, (shr_slice_Tells (named 1) κs.1.0 u8, (shr_slice_Tells (named 1) κs.1.0 u8, (mut_slice_Tells (named 2) κs.1.1.0 u8, (tells PX₁, tt))))))
             (λ κs qs bounds a g are. via 𝓤 _ (fst∗ 𝓤 _ (emp 𝓤)) (walk κs.0 κs.1 qs.0 qs.1 a.0.ref_ptr.0 a.0.ref_ptr.1 a.0.ghost_name a.0.now are.0.0.1 a.1.0 a.1.1.0 a.1.1.1.0 a.1.1.1.1.0 C Λ fm known-refuse known-find known-load known known-save are.1.0.0.1 are.1.1.0.0.1 are.1.1.1.0.0.1 are.1.1.1.1.0))
 
