@@ -1,4 +1,6 @@
 // Clients as bytes: oracle/REPLAY.md has the format. A byte past the end reads as 0.
+#![tactic(auto)]
+
 ghost use Rattle.std.specs.Prelude.{◌≡◌, ◌+◌, ◌*◌, ◌<◌, drop};
 ghost use Rattle.format.specs.Format.{byte_at, big, client_bytes, client_of, is_client};
 
@@ -13,8 +15,8 @@ fn wide(s: &[u8], at: usize) -> u64
 
 // Two bytes at a place, the first the most significant.
 fn big_u16(s: &[u8], at: usize) -> u64
-    ensures fact_1 { result ≡ big 2 (drop at s.now) }
-    ensures fact_2 { result < 65536 }
+    ensures value { result ≡ big 2 (drop at s.now) }
+    ensures fits { result < 65536 }
 {
     let t = octets::rest(s, at);
     256 * wide(t, 0) + wide(t, 1)

@@ -1,4 +1,6 @@
 // The command's codec (command/base.rs). The payload is a part of the bytes that a command was read from.
+#![tactic(auto)]
+
 ghost use Rattle.std.specs.Prelude.{◌≡◌, ◌+◌, ◌*◌, ◌%◌, ◌<◌};
 ghost use Rattle.octets.specs.Octets.{splice};
 ghost use Rattle.protocol.specs.Coding.{put, written, told_written};
@@ -137,8 +139,8 @@ pub fn store(c: SdoCommand, payload: &[u8], buffer: &mut [u8])
 
 // Writes the command with its payload at the start of the buffer, whose other bytes stay. A buffer that is too short stays whole.
 pub fn serialize(c: SdoCommand, payload: &[u8], buffer: &mut [u8]) -> Written
-    ensures fact_1 { told_written result ≡ written (encode_command flag_places (with_payload c payload.now)) buffer.old }
-    ensures fact_2 { buffer.new ≡ put (encode_command flag_places (with_payload c payload.now)) buffer.old }
+    ensures told { told_written result ≡ written (encode_command flag_places (with_payload c payload.now)) buffer.old }
+    ensures left { buffer.new ≡ put (encode_command flag_places (with_payload c payload.now)) buffer.old }
 {
     let h = c.header;
     let s = h.segmentation;

@@ -1,4 +1,6 @@
 // The fields of a command's header as numbers (command/base.rs): ids, segmentation, the header's length, the total size, and the transaction id of what cannot be decoded.
+#![tactic(auto)]
+
 ghost use Rattle.std.specs.Prelude.{◌≡◌, ◌%◌};
 ghost use Rattle.protocol.specs.Command.{segmentation_number, segmentation_of, id_byte, id_of, header_length, total_number, undecodable_transaction};
 

@@ -1,4 +1,6 @@
 // The items of a call script: oracle/REPLAY.md has the format. How long one is, and a call's client, clock and request.
+#![tactic(auto)]
+
 ghost use Rattle.std.specs.Prelude.{◌≡◌, ◌≤◌};
 ghost use Rattle.picks.specs.Pick.{pick};
 ghost use Rattle.format.specs.Format.{number_at};

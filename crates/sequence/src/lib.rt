@@ -1,4 +1,6 @@
 // The sequence header's codec, and the step of a sequence number (sequence.rs).
+#![tactic(auto)]
+
 ghost use Rattle.std.specs.Prelude.{◌≡◌, ◌+◌, ◌*◌, ◌%◌, ◌<◌};
 ghost use Rattle.protocol.specs.Coding.{put, written, told_written};
 ghost use Rattle.protocol.specs.SequenceHeader.{next, receive_mark, send_mark, receive_mark_of, send_mark_of, encode_header, decode_header, told_header, command_part};
@@ -70,8 +72,8 @@ fn octet(number: u8, mark: u8) -> u8
 
 // Writes the header at the start of the buffer, whose other bytes stay. A buffer under four bytes stays whole.
 pub fn serialize(h: SequenceLayerHeader, buffer: &mut [u8]) -> Written
-    ensures fact_1 { told_written result ≡ written (encode_header h) buffer.old }
-    ensures fact_2 { buffer.new ≡ put (encode_header h) buffer.old }
+    ensures told { told_written result ≡ written (encode_header h) buffer.old }
+    ensures left { buffer.new ≡ put (encode_header h) buffer.old }
 {
     if buffer.len() < 4 {
         return Written::BufferTooShort;

@@ -1,4 +1,6 @@
 // Texts, numbers and bytes laid on a lent page, and the parts of a text. A page has a place, where the next text goes; what does not fit is dropped.
+#![tactic(auto)]
+
 ghost use Rattle.std.specs.Prelude.{◌%◌, ◌≤◌, min, ◌≡◌, length, drop, eqb, ◌++◌};
 ghost use Rattle.picks.specs.Pick.{first};
 ghost use Rattle.show.specs.Text.{page_at, laid, letters, digit_of, hex_text, decimal_text, bytes_text, more_text, start_text, until_mark, behind_mark, line_of};

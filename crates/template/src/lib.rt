@@ -1,4 +1,6 @@
 // Words with numbers in them, laid on a page: a template has a mark for each number.
+#![tactic(auto)]
+
 ghost use Rattle.std.specs.Prelude.{◌<◌, ◌≤◌, ◌≡◌, length, get_or};
 ghost use Rattle.show.specs.Text.{page_at, laid, digits};
 ghost use Rattle.template.specs.Filled.{letter_text, taken, filled};
