@@ -1,4 +1,6 @@
 // One connection record, by value: its client among others, and how it is made.
+#![tactic(auto)]
+
 ghost use Rattle.std.specs.Prelude.{◌≡◌};
 ghost use Rattle.protocol.specs.ConnectionTable.{before, same_client, is_closed, is_fresh, is_unused, fresh, joining, holds};
 ghost use Rattle.connection.specs.Among.{follows, is_gone, is_behind};

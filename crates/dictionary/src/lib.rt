@@ -1,4 +1,6 @@
 // The dictionary image: the look-up of an object, and the two parameters. Every function takes every image.
+#![tactic(auto)]
+
 ghost use Rattle.std.specs.Prelude.{◌≡◌, ℕ, ◌+◌, ◌*◌, ◌≤◌, ◌<◌, min, Bool, false, ◌&&◌, eqb, length};
 ghost use Rattle.picks.specs.Pick.{pick};
 ghost use Rattle.protocol.specs.declared.Lookup.TheVariants.{NoObject, NoSubIndex};
@@ -22,7 +24,7 @@ const NEAR_LOW: u16 = 0x1300;
 const NEAR_HIGH: u16 = 0x13FF;
 
 // The two parameters of a transfer.
-#[derive(Drop)]
+#[derive(Clone, Copy)]
 pub struct Parameters {
     pub timeout: u32, // in milliseconds
     pub retries: u32, // how often a segment is sent again
@@ -159,8 +161,8 @@ fn parameter(image: &[u8], from: usize, n: usize, index: u16, default: u32) -> u
 
 // The two parameters in one pass: both are looked up from the first entries on whose index is near theirs.
 pub fn parameters_in(image: &[u8]) -> Parameters
-    ensures fact_1 { result.timeout ≡ timeout_of image.now }
-    ensures fact_2 { result.retries ≡ retries_of image.now }
+    ensures timeout { result.timeout ≡ timeout_of image.now }
+    ensures retries { result.retries ≡ retries_of image.now }
 {
     let n = octets::u16_at(image, 0) as usize;
     let i = skip(image, 0, n, NEAR_LOW, NEAR_HIGH);

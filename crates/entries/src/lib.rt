@@ -1,4 +1,6 @@
 // One entry of the dictionary image: its fields, its value, whether it may be read and written, the number of a parameter, and a write. Every function takes every image.
+#![tactic(auto)]
+
 ghost use Rattle.std.specs.Prelude.{◌≡◌, ◌+◌, ◌*◌, ◌≤◌, length};
 ghost use Rattle.octets.specs.Octets.{le_bytes, splice};
 ghost use Rattle.entries.specs.Reading.{entry_in};

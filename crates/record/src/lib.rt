@@ -1,4 +1,6 @@
 // Records and tables as bytes: oracle/REPLAY.md has the format. A byte past the end reads as 0.
+#![tactic(auto)]
+
 ghost use Rattle.std.specs.Prelude.{◌≡◌, ◌+◌, ◌*◌, ◌<◌, ◌≤◌, length, take, drop, eqb};
 ghost use Rattle.picks.specs.Pick.{pick};
 ghost use Rattle.octets.specs.Octets.{splice};

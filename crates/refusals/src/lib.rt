@@ -1,4 +1,6 @@
 // The tests of a call, in the order of their refusals: what is lent, the clock and the frame; whether the table is sound, and full for the client, is told.
+#![tactic(auto)]
+
 ghost use Rattle.std.specs.Prelude.{◌≡◌, not, ◌||◌, length, eqb, ltb};
 ghost use Rattle.protocol.specs.Constants.{AREA, ANSWER_MIN};
 ghost use Rattle.protocol.specs.Calls.{told_checked, verdict};

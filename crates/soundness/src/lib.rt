@@ -1,4 +1,6 @@
 // The soundness of a dictionary image, in one pass.
+#![tactic(auto)]
+
 ghost use Rattle.std.specs.Prelude.{◌≡◌, ◌+◌, ◌*◌, ◌≤◌, ◌<◌, false, ◌&&◌, ◌||◌, leb, eqb, length};
 ghost use Rattle.protocol.specs.DictionaryImage.{entry_at, entries_from, is_variable, key, sound_entry, sound_entries, sound_image};
 

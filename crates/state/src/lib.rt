@@ -1,7 +1,9 @@
 // The transfer of an upload or a download (state.rs): its next and its stored piece, and the deadlines that they set. A piece's bytes stay in the share.
+#![tactic(auto)]
+
 ghost use Rattle.std.specs.Prelude.{◌≡◌, List, ℕ, ◌+◌, ◌-◌, ◌*◌, min, eqb};
 ghost use Rattle.picks.specs.Pick.{pick};
-ghost use Rattle.protocol.specs.Constants.{PIECE, CLOCK_MAX};
+ghost use Rattle.protocol.specs.Constants.{PIECE, CLOCK_MAX as LAST_CLOCK};
 ghost use Rattle.protocol.specs.Command.{with_payload};
 ghost use Rattle.protocol.specs.TransferRecord.{moved, with_state, body_bytes, told_action, piece_length, piece_kind, piece, stored_piece, deadline_after, after_piece, is_last, advance};
 
@@ -113,7 +115,7 @@ pub fn stored_piece(t: SdoTransferState) -> Piece
 
 // The time that lies a timeout behind the clock.
 fn due_after(timeout: u32, clock: u64) -> u64
-    ensures { result ≡ min clock CLOCK_MAX + timeout * 1000 }
+    ensures { result ≡ min clock LAST_CLOCK + timeout * 1000 }
 {
     let wait = (timeout as u64) * 1000;
     if clock <= CLOCK_MAX {

@@ -1,4 +1,6 @@
 // The row of eight connection records, by value (server.rs has a BTreeMap of handlers, by client): its soundness, a client's place, who is due, and how a client joins and leaves.
+#![tactic(auto)]
+
 ghost use Rattle.std.specs.Prelude.{◌≡◌, true, false, not, ◌&&◌, [], ◌∷◌, ◌++◌, length, get_or, set, take, drop, suc, ◌≤◌, ◌<◌, eqb};
 ghost use Rattle.picks.specs.Pick.{pick, first, every};
 ghost use Rattle.protocol.specs.ConnectionTable.{unused_of, fresh, holds, place_of, is_known, join, release, sound_record, chosen, earliest, ordered, areas_once, sound_table};
@@ -158,8 +160,8 @@ fn seat_place(t: [Connection; 8], client: SdoClientInfo) -> usize
 
 // The row with a record put at a place and those from there up to place n moved up by one; the one at place n is lost.
 fn put_in(t: [Connection; 8], at: usize, n: usize, c: Connection) -> [Connection; 8]
-    requires fact_1 { at ≤ n }
-    requires fact_2 { n < 8 }
+    requires at_within { at ≤ n }
+    requires n_within { n < 8 }
     ensures { result ≡ put_in at n c t }
 {
     let mut r = t;
@@ -204,8 +206,8 @@ fn joined(t: [Connection; 8], client: SdoClientInfo) -> [Connection; 8]
 
 // The row where the client has a record: its own, or one that it joins with.
 pub fn seated(t: [Connection; 8], client: SdoClientInfo) -> [Connection; 8]
-    ensures fact_1 { result ≡ pick (is_known client t) t (joined_row client t) }
-    ensures fact_2 { (sound_table t ≡ true → (not (is_known client t) && eqb (length (unused_of t)) 0) ≡ false → result ≡ pick (is_known client t) t (join client t)) }
+    ensures value { result ≡ pick (is_known client t) t (joined_row client t) }
+    ensures when_sound { (sound_table t ≡ true → (not (is_known client t) && eqb (length (unused_of t)) 0) ≡ false → result ≡ pick (is_known client t) t (join client t)) }
 {
     if place_of(t, client) < 8 {
         return t;
@@ -248,8 +250,8 @@ pub fn dropped_at(t: [Connection; 8], i: usize) -> [Connection; 8]
 
 // The row without the client's record.
 pub fn dropped(t: [Connection; 8], client: SdoClientInfo) -> [Connection; 8]
-    ensures fact_1 { result ≡ dropped_at (place_of client t) t }
-    ensures fact_2 { (sound_table t ≡ true → result ≡ release (holds client) t) }
+    ensures value { result ≡ dropped_at (place_of client t) t }
+    ensures when_sound { (sound_table t ≡ true → result ≡ release (holds client) t) }
 {
     let i = place_of(t, client);
     dropped_at(t, i)
@@ -272,8 +274,8 @@ fn gone_place(t: [Connection; 8]) -> usize
 
 // The row without its closed records, whose area numbers go to the last unused ones in client order.
 pub fn drop_closed(t: [Connection; 8]) -> [Connection; 8]
-    ensures fact_1 { result ≡ drops_first 8 is_gone t }
-    ensures fact_2 { (sound_table t ≡ true → result ≡ release is_gone t) }
+    ensures value { result ≡ drops_first 8 is_gone t }
+    ensures when_sound { (sound_table t ≡ true → result ≡ release is_gone t) }
 {
     let mut r = t;
     let mut left: usize = 8;

@@ -1,4 +1,6 @@
 // The transfer of a connection record, by value: whether it is sound, and when it is due.
+#![tactic(auto)]
+
 ghost use Rattle.std.specs.Prelude.{◌≡◌, not, ◌&&◌, max, eqb, ltb};
 ghost use Rattle.picks.specs.Pick.{pick};
 ghost use Rattle.protocol.specs.ConnectionTable.{has_deadline, sound_upload, sound_download, sound_state, sound_record, transfer_deadline, is_past, is_due, earlier, deadline_of};

@@ -1,0 +1,9 @@
+-- From the first entry on.
+use mathlib.Core.Path.{sym, ◌∙◌}
+use Rattle.dictionary.proofs.Skipping.{lookup_whole}
+use Rattle.dictionary.proofs.lookup.Goals as goal
+
+pub returns : goal.returns
+returns c =
+    let a = c.args in
+    c.lookup_from.ensures ∙ sym (lookup_whole a.image.now c.u16_at-n.result a.index a.sub c.u16_at-n.ensures)

@@ -1,0 +1,12 @@
+-- What is looked up is what the entries from the turn's on give, and whether the index was seen before them. What a turn skips changes nothing.
+use Prim.Native.Nat.{◌-◌}
+use mathlib.Core.Path.{◌≡◌}
+use mathlib.Core.Bool.{false}
+use Rattle.dictionary.specs.Skipping.{lookup_from}
+use Rattle.dictionary.proofs.lookup_from.Given as goal
+
+abbrev pub invariant-loop-i : goal.invariant-loop-i
+invariant-loop-i l = lookup_from l.image l.n l.from l.index l.sub false ≡ lookup_from l.image l.n l.i l.index l.sub l.seen
+
+abbrev pub decreases-loop-i : goal.decreases-loop-i
+decreases-loop-i l = l.n - l.i

@@ -1,0 +1,14 @@
+-- Five stores, one behind the other.
+use Rattle.format.specs.Format.{record_bytes}
+use Rattle.format.proofs.Writing.{length_client, length_state, length_record, record_laid}
+use mathlib.Core.Path.{refl, sym, ap, ◌∙◌}
+use lib.ListN.{length}
+use Rattle.record.proofs.lay_record.Goals as goal
+
+pub returns : goal.returns
+unfolding record_bytes
+returns c =
+    let a = c.args in rw (c.store_u8.ensures, c.copy_at-3.ensures, c.state_bytes.ensures, c.copy_at-2.ensures, c.state_number.ensures, c.copy_at.ensures, c.client_bytes.ensures) (record_laid _ _ _ _ a.out.now (length_client a.c.client) refl (length_state a.c.state) c.requires)
+
+pub shape_of-out : goal.shape_of-out
+shape_of-out c = ap length (returns c) ∙ length_record c.args.c ∙ sym c.requires
