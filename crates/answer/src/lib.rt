@@ -1,4 +1,6 @@
 // An answer's bytes in a lent buffer.
+#![tactic(auto)]
+
 ghost use Rattle.std.specs.Prelude.{◌≡◌, ◌++◌, ◌≤◌, length};
 ghost use Rattle.octets.specs.Octets.{le_bytes, splice};
 ghost use Rattle.protocol.specs.Coding.{told_written};
@@ -12,8 +14,8 @@ use protocol::{Body, SdoCommand, SdoResponseData, Written};
 // Writes a command with its payload of at most so many bytes at the buffer's start and tells its length.
 fn put_command(m: SdoCommand, payload: &[u8], most: u16, buffer: &mut [u8]) -> usize
     requires { length payload.now ≤ most }
-    ensures fact_1 { (result ≡ length (encode_command flag_places (with_payload m payload.now))) × (result ≤ 65547) }
-    ensures fact_2 { buffer.new ≡ splice 0 (encode_command flag_places (with_payload m payload.now)) buffer.old }
+    ensures size { (result ≡ length (encode_command flag_places (with_payload m payload.now))) × (result ≤ 65547) }
+    ensures bytes { buffer.new ≡ splice 0 (encode_command flag_places (with_payload m payload.now)) buffer.old }
 {
     command::store(m, payload, buffer);
     let h = m.header;
@@ -23,8 +25,8 @@ fn put_command(m: SdoCommand, payload: &[u8], most: u16, buffer: &mut [u8]) -> u
 
 // A command whose payload is a u32.
 fn put_code(m: SdoCommand, code: u32, buffer: &mut [u8]) -> usize
-    ensures fact_1 { (result ≡ length (encode_command flag_places (with_payload m (le_bytes 4 code)))) × (result ≤ 65547) }
-    ensures fact_2 { buffer.new ≡ splice 0 (encode_command flag_places (with_payload m (le_bytes 4 code))) buffer.old }
+    ensures size { (result ≡ length (encode_command flag_places (with_payload m (le_bytes 4 code)))) × (result ≤ 65547) }
+    ensures bytes { buffer.new ≡ splice 0 (encode_command flag_places (with_payload m (le_bytes 4 code))) buffer.old }
 {
     let bytes = [
         (code % 256) as u8,
@@ -37,8 +39,8 @@ fn put_code(m: SdoCommand, code: u32, buffer: &mut [u8]) -> usize
 
 // A command whose payload is two u16.
 fn put_sizes(m: SdoCommand, a: u16, b: u16, buffer: &mut [u8]) -> usize
-    ensures fact_1 { (result ≡ length (encode_command flag_places (with_payload m (le_bytes 2 a ++ le_bytes 2 b)))) × (result ≤ 65547) }
-    ensures fact_2 { buffer.new ≡ splice 0 (encode_command flag_places (with_payload m (le_bytes 2 a ++ le_bytes 2 b))) buffer.old }
+    ensures size { (result ≡ length (encode_command flag_places (with_payload m (le_bytes 2 a ++ le_bytes 2 b)))) × (result ≤ 65547) }
+    ensures bytes { buffer.new ≡ splice 0 (encode_command flag_places (with_payload m (le_bytes 2 a ++ le_bytes 2 b))) buffer.old }
 {
     let bytes = [
         (a % 256) as u8,
@@ -57,8 +59,8 @@ fn put_body<'a>(
     image: &'a [u8],
     buffer: &mut [u8],
 ) -> usize
-    ensures fact_1 { (result ≡ length (encode_command flag_places (with_payload m (body_bytes share.now image.now body)))) × (result ≤ 65547) }
-    ensures fact_2 { buffer.new ≡ splice 0 (encode_command flag_places (with_payload m (body_bytes share.now image.now body))) buffer.old }
+    ensures size { (result ≡ length (encode_command flag_places (with_payload m (body_bytes share.now image.now body)))) × (result ≤ 65547) }
+    ensures bytes { buffer.new ≡ splice 0 (encode_command flag_places (with_payload m (body_bytes share.now image.now body))) buffer.old }
 {
     match body {
         Body::Nothing => put_command(m, handlers::payload(share, image, body), 0, buffer),
@@ -76,8 +78,8 @@ pub fn write_answer<'a>(
     image: &'a [u8],
     answer: &mut [u8],
 ) -> Written
-    ensures fact_1 { told_written result ≡ answer_written (told_reply r share.now image.now) answer.old }
-    ensures fact_2 { answer.new ≡ answer_left (told_reply r share.now image.now) answer.old }
+    ensures told { told_written result ≡ answer_written (told_reply r share.now image.now) answer.old }
+    ensures left { answer.new ≡ answer_left (told_reply r share.now image.now) answer.old }
 {
     if answer.len() < 1468 {
         return Written::BufferTooShort;

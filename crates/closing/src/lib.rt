@@ -1,4 +1,6 @@
 // What a command's answer does to a connection after it (sequence_handler.rs): an answer that ends its transfer closes, and the answer gets its header.
+#![tactic(auto)]
+
 ghost use Rattle.std.specs.Prelude.{◌≡◌, List, true, false, ◌||◌, ℕ};
 ghost use Rattle.picks.specs.Pick.{pick};
 ghost use Rattle.protocol.specs.TransferRecord.{told_action};

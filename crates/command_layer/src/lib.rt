@@ -1,4 +1,6 @@
 // The command layer of one connection, by value (sequence_handler.rs, process_command_layer). The client's share of the area and the image are lent.
+#![tactic(auto)]
+
 ghost use Rattle.std.specs.Prelude.{◌≡◌, List, [], ℕ};
 ghost use Rattle.protocol.specs.Constants.{INVALID_COMMAND};
 ghost use Rattle.protocol.specs.Command.{flag_places, total_number, with_payload, decode_command};

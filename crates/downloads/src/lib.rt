@@ -1,4 +1,6 @@
 // WriteByIndex: the data of a running download, and the four kinds of a write (handlers.rs). The client's own share of the area is lent to what a download stores.
+#![tactic(auto)]
+
 ghost use Rattle.std.specs.Prelude.{◌≡◌, ℕ, ◌+◌, ◌≤◌, length, ltb};
 ghost use Rattle.protocol.specs.TransferRecord.{told_action, write_segment, write_complete, download_step, write_data, write_by_index};
 

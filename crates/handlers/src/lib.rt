@@ -1,4 +1,6 @@
 // The answers to commands, reads by index, and the segment size (handlers.rs). The client's own share of the area is lent to the copy at an upload's start.
+#![tactic(auto)]
+
 ghost use Rattle.std.specs.Prelude.{◌≡◌, List, [], ℕ, ◌≤◌, length, take, ltb};
 ghost use Rattle.picks.specs.Pick.{pick};
 ghost use Rattle.octets.specs.Octets.{le};

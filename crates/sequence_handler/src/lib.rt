@@ -1,4 +1,6 @@
 // Requests and ticks on one connection, by value (sequence_handler.rs): before the sequence step, the step, and after it the command layer, the closing and the answer's header. The client's share of the area and the image are lent.
+#![tactic(auto)]
+
 ghost use Rattle.std.specs.Prelude.{◌≡◌, List, true, false, ◌||◌, ℕ, eqb};
 ghost use Rattle.protocol.specs.SequenceHeader.{send_mark, command_part};
 ghost use Rattle.protocol.specs.TransferRecord.{told_action};

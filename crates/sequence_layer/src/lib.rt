@@ -1,4 +1,6 @@
 // The sequence layer of one connection, by value (sequence_handler.rs, process_sequence_layer): what stands before the sequence step, and the step itself.
+#![tactic(auto)]
+
 ghost use Rattle.std.specs.Prelude.{◌≡◌, List, ◌&&◌, ℕ, eqb};
 ghost use Rattle.protocol.specs.SequenceHeader.{send_mark};
 ghost use Rattle.protocol.specs.ConnectionRecord.{told_step, told_resend, before_in, before_step, answer_marked, closed_step, opening_step, acknowledged, acknowledge, later_step, sequence_step};

@@ -1,4 +1,6 @@
 // The sequence step on a single lent record: the record is taken apart, the step by value is called, and the record is written back. It stands on the path of every request.
+#![tactic(auto)]
+
 ghost use Rattle.std.specs.Prelude.{◌≡◌};
 ghost use Rattle.protocol.specs.ConnectionRecord.{told_step, sequence_step};
 ghost use Rattle.stepping.specs.Stepping.{taken_of, told_stepping, joined_step};
@@ -6,14 +8,14 @@ ghost use Rattle.stepping.specs.Stepping.{taken_of, told_stepping, joined_step};
 use protocol::{Connection, SequenceLayerHeader, Step};
 
 // What the sequence step says beside the record that it leaves: the answer's header so far, or that the frame does not fit.
-#[derive(Drop)]
+#[derive(Clone, Copy)]
 pub enum Stepping {
     Answer(SequenceLayerHeader),
     Misfit,
 }
 
 // The record after the sequence step, and what it says.
-#[derive(Drop)]
+#[derive(Clone, Copy)]
 pub struct Taken {
     pub connection: Connection,
     pub said: Stepping,

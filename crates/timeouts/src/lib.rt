@@ -1,4 +1,6 @@
 // A transfer that is due (sequence_handler.rs, `tick`): an upload's stored piece is resent while there are retries, any other transfer is given up.
+#![tactic(auto)]
+
 ghost use Rattle.std.specs.Prelude.{◌≡◌, List, ℕ, ◌≤◌};
 ghost use Rattle.protocol.specs.ConnectionTable.{told_record_ticked, times_out, retried, tick_upload};
 

@@ -1,4 +1,6 @@
 // A command that meets a running upload (sequence_handler.rs, `process_command_layer`): one of the same transaction may ask for the next piece.
+#![tactic(auto)]
+
 ghost use Rattle.std.specs.Prelude.{◌≡◌, List, ◌||◌, ℕ, eqb};
 ghost use Rattle.protocol.specs.Command.{id_byte, with_payload};
 ghost use Rattle.protocol.specs.TransferRecord.{told_action};

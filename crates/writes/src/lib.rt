@@ -1,4 +1,6 @@
 // WriteByIndex in one frame, and the Initiate that begins a download (handlers.rs). The client's own share of the area is lent to what a download stores.
+#![tactic(auto)]
+
 ghost use Rattle.std.specs.Prelude.{◌≡◌, List, ℕ, min};
 ghost use Rattle.protocol.specs.Constants.{OFFSET_MAX};
 ghost use Rattle.protocol.specs.TransferRecord.{told_action, write_object, write_expedited, new_download, write_initiate};
