@@ -1,4 +1,3 @@
-pub mod Types
 pub mod OtherLength
 pub mod Query
 pub mod Search

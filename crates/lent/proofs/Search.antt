@@ -1,10 +1,12 @@
 -- The search with the index finds the place of the first due record, and a tick that looks there is the tick.
-use Prim.Native.Nat.{ℕ, suc, ◌+◌, ◌≤◌}
+use Prim.Native.Nat.{ℕ, suc, ◌+◌, ◌<◌, ◌≤◌}
 use native.Mathlib.Omega.{arith}
 use mathlib.Core.Bool.{Bool, true, false, not}
 use mathlib.Core.Path.{◌≡◌, refl, sym, ap, ◌∙◌, subst}
 use mathlib.Core.List.{List, [], ◌∷◌}
-use lib.ListN.{length}
+use lib.ListN.{length, get_or, drop, drop_of_length-le}
+use lib.Seq.{drop-cons}
+use native.Mathlib.Numerals.{add-one}
 use lib.Dec.{T, ltb, ltb→lt, nltb→le}
 use borrow.Author.Tests.{lt-ltb, le-ltb}
 use Rattle.picks.specs.Pick.{pick, first}
@@ -45,6 +47,17 @@ due_from_lem : (i : ℕ) (cs : List Connection) (k : ℕ) → due_from Nobody i 
 unfolding due_from first pick
 due_from_lem i [] k = refl
 due_from_lem i (c ∷ cs) k = due_next i cs k (is_due k c) (due_from_lem (i + 1) cs k)
+
+-- the search at its head, after a turn, and at its end
+module _ (cs : List Connection) (k : ℕ) (b : Due) (i : ℕ) (inv : due_from Nobody 0 cs k ≡ due_from b i (drop i cs) k) where
+  pub due_more : (d : Connection) → i < length cs → due_from Nobody 0 cs k ≡ due_from (better_of b (get_or cs i d) i k) (i + 1) (drop (i + 1) cs) k
+  unfolding due_from
+  due_more d h =
+      inv ∙ (rw (drop-cons cs i d h) (ap (λ (n : ℕ). due_from (better_of b (get_or cs i d) i k) (i + 1) (drop n cs) k) (sym (add-one i))))
+
+  pub due_end : length cs ≤ i → b ≡ due_from Nobody 0 cs k
+  unfolding due_from
+  due_end h = sym (inv ∙ (rw (drop_of_length-le cs h)))
 
 pub due_is : (cs : List Connection) (k : ℕ) → due_from Nobody 0 cs k ≡ due_in (chosen cs k) (length cs)
 unfolding chosen

@@ -1,4 +1,6 @@
 // The way in: request, tick and deadline query over a lent table, beside the lent area, image and answer buffer. A table of another length than eight is refused with 1, and all is left.
+#![tactic(auto)]
+
 ghost use Rattle.std.specs.Prelude.{◌≡◌, length, replicate};
 ghost use Rattle.protocol.specs.ConnectionTable.{fresh, deadline_of, earlier, earliest, chosen};
 ghost use Rattle.protocol.specs.Request.{told_outcome, request_of};
@@ -81,13 +83,14 @@ pub fn handle_request(
 }
 
 // The place of the first record that is due, or that none is.
-#[derive(Drop)]
+#[derive(Clone, Copy)]
 pub enum Due {
     Nobody,
     At(usize),
 }
 
 // The best so far, or else the record at place i where it is due.
+#[tactic(auto, unfolding(picks::specs::Pick::pick))]
 fn better(best: Due, c: Connection, i: usize, clock: u64) -> Due
     ensures { result ≡ better_of best c i clock }
 {
@@ -116,6 +119,7 @@ pub fn first_due(table: &[Connection], clock: u64) -> Due
 }
 
 // The place of the first due record, past the end where none is due.
+#[tactic(auto, unfolding(protocol::specs::Constants::RECORDS))]
 fn due_place(due: Due) -> usize
     ensures { result ≡ due_place due }
 {
@@ -193,6 +197,7 @@ fn no_query() -> NextAction
 }
 
 // A row's earliest deadline as an answer, or a refusal where the row is not sound.
+#[tactic(auto, unfolding(picks::specs::Pick::pick))]
 fn asked(t: [Connection; 8], d: Deadline) -> NextAction
     ensures { result ≡ asked_of t d }
 {

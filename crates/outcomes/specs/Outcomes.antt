@@ -1,5 +1,5 @@
 -- What a call answers, as numbers, and what it leaves of the table's bytes.
-use Rattle.std.specs.Prelude.{ℕ, Bool, ◌&&◌, List, length, replicate, ltb}
+use Rattle.std.specs.Prelude.{ℕ, Bool, ◌&&◌, List, replicate, ltb}
 use Rattle.picks.specs.Pick.{pick}
 use Rattle.octets.specs.Octets.{le}
 use Rattle.protocol.specs.declared.Deadline.{Deadline}

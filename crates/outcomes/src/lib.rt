@@ -1,4 +1,6 @@
 // What a call answers and leaves, for C: outcomes as numbers, and the row that a table's 320 bytes stand for.
+#![tactic(auto)]
+
 ghost use Rattle.std.specs.Prelude.{◌≡◌, true};
 ghost use Rattle.octets.specs.Octets.{le};
 ghost use Rattle.protocol.specs.Coding.{refusal_number};
@@ -12,7 +14,7 @@ use protocol::{Connection, NextAction, Outcome, Refusal, SdoClientInfo, Ticked};
 
 // What a call answered: 0 and the answer's length and client, a refusal's number, or 255 where nobody is answered.
 #[repr(C)]
-#[derive(Drop)]
+#[derive(Clone, Copy)]
 pub struct SdoAnswer {
     pub outcome: u64,
     pub length: u64,
@@ -21,7 +23,7 @@ pub struct SdoAnswer {
 
 // What the deadline query answered: 254 and the deadline, a refusal's number, or 255 without a deadline.
 #[repr(C)]
-#[derive(Drop)]
+#[derive(Clone, Copy)]
 pub struct SdoDeadline {
     pub outcome: u64,
     pub at: u64,

@@ -1,4 +1,6 @@
 // The way in for a program that keeps its row of records itself: the row is lent to the call and returned as the call left it.
+#![tactic(auto)]
+
 ghost use Rattle.std.specs.Prelude.{◌≡◌};
 ghost use Rattle.protocol.specs.Request.{told_requested, request_of};
 ghost use Rattle.protocol.specs.Tick.{told_ticked_row, tick_of};

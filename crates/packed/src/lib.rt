@@ -1,4 +1,6 @@
 // The table in its 320 bytes (oracle/REPLAY.md): what `table` says of a row, asked of the bytes with no row made of them.
+#![tactic(auto)]
+
 ghost use Rattle.std.specs.Prelude.{◌≡◌, true, ◌&&◌, ◌+◌, ◌<◌, ◌≤◌, get_or};
 ghost use Rattle.picks.specs.Pick.{every};
 ghost use Rattle.protocol.specs.declared.SdoClientInfo.TheVariants.{Asnd};

@@ -1,4 +1,6 @@
 // A table's 320 bytes changed where they are, by whole records: what nobody looks at becomes 0.
+#![tactic(auto)]
+
 ghost use Rattle.std.specs.Prelude.{◌≡◌, true, ◌&&◌, ◌+◌, ◌≤◌, length, take, drop, set, ltb, leb};
 ghost use Rattle.picks.specs.Pick.{pick};
 ghost use Rattle.octets.specs.Octets.{AllBytes, splice};

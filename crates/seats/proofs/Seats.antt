@@ -136,7 +136,7 @@ module _ (client : SdoClientInfo) (clock : ℕ) (request image answer : List ℕ
         place_unique client S i joined_sound (omega (arith, joined_long, seat_below, free_below)) (ap (holds client) r ∙ same_client_refl client)
 
   -- the record is the one that the definitions serve
-  pub seat_own : (seat_in client place free row).own_val ≡ record_of client S
+  pub seat_own : (seat_in client place free row).own ≡ record_of client S
   seat_own =
       by_test (is_known client row)
       (λ k. ap (λ (s : Seat). s.own) (at_own k) ∙ ap (λ i. get_or row i (fresh 0)) ep ∙ ap (record_of client) (own_row k))
@@ -167,7 +167,7 @@ module _ (client : SdoClientInfo) (clock : ℕ) (request image answer : List ℕ
       let inside : i < length q = rw (joined_row_lem k, joined_long k) (omega (arith, seat_below k, free_below k)) in
       ap (λ (s : Seat). dropped_at (pick s.known s.place free) row) (at_free k) ∙ sym (put_in_dropped row i free (j k) (seat_below k) (free_below k) inside refl) ∙ ap (dropped_at i) (joined_row_lem k) ∙ ap (λ m. dropped_at m S) (sym (joined_place k)))
 
-  pub seat_dropped : (next : Connection) → next.area ≡ (seat_in client place free row).own_val.area → holds client next ≡ true → sound_table (update client next S) ≡ true → dropped_at (pick (seat_in client place free row).known (seat_in client place free row).place free) row ≡ release (holds client) (update client next S)
+  pub seat_dropped : (next : Connection) → next.area ≡ (seat_in client place free row).own.area → holds client next ≡ true → sound_table (update client next S) ≡ true → dropped_at (pick (seat_in client place free row).known (seat_in client place free row).place free) row ≡ release (holds client) (update client next S)
   unfolding update place_of
   seat_dropped next e hold sound =
       let i = seats S in

@@ -1,4 +1,6 @@
 // A client's seat in the table's 320 bytes: where its record stands or belongs, the record, and how it is put back after a call.
+#![tactic(auto)]
+
 ghost use Rattle.std.specs.Prelude.{◌≡◌, true};
 ghost use Rattle.format.specs.Format.{table_bytes, table_of};
 ghost use Rattle.seats.specs.Seats.{seat_in, back_row, settled_in};
@@ -6,7 +8,7 @@ ghost use Rattle.seats.specs.Seats.{seat_in, back_row, settled_in};
 use protocol::{Connection, SdoClientInfo};
 
 // Where a client's record stands, or where it belongs if it has none, and the record.
-#[derive(Drop)]
+#[derive(Clone, Copy)]
 pub struct Seat {
     pub known: bool,
     pub place: usize,

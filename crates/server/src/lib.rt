@@ -1,4 +1,6 @@
 // The server with its table as one value, a row of eight records (server.rs): request, tick and deadline query, with the refusals in order. Area, image and answer buffer are lent.
+#![tactic(auto)]
+
 ghost use Rattle.std.specs.Prelude.{◌≡◌, true, ◌+◌, ◌*◌, ◌≤◌, length, set};
 ghost use Rattle.picks.specs.Pick.{pick};
 ghost use Rattle.protocol.specs.Constants.{SHARE, ANSWER_MIN};
@@ -45,8 +47,8 @@ fn serve_share(
     request: &[u8],
 ) -> Handled
     requires { SHARE * c.area + SHARE ≤ length area.old }
-    ensures fact_1 { (told_handled result (share_of area.new c.area) image.new ≡ serve c (share_of area.old c.area) image.old clock request.now) }
-    ensures fact_2 { area.new ≡ with_share area.old c.area (share_of area.new c.area) }
+    ensures served { (told_handled result (share_of area.new c.area) image.new ≡ serve c (share_of area.old c.area) image.old clock request.now) }
+    ensures area_left { area.new ≡ with_share area.old c.area (share_of area.new c.area) }
 {
     let from = 8192 * (c.area as usize);
     let to = from + 8192;
@@ -61,8 +63,8 @@ pub fn serve_record(
     clock: u64,
     request: &[u8],
 ) -> Handled
-    ensures fact_1 { told_handled result (share_of area.new c.area) image.new ≡ served_on c area.old image.old clock request.now }
-    ensures fact_2 { area.new ≡ pick (holds_share c area.old) (with_share area.old c.area (share_of area.new c.area)) area.old }
+    ensures served { told_handled result (share_of area.new c.area) image.new ≡ served_on c area.old image.old clock request.now }
+    ensures area_left { area.new ≡ pick (holds_share c area.old) (with_share area.old c.area (share_of area.new c.area)) area.old }
 {
     if area.len() < 8192 * (c.area as usize) + 8192 {
         return Handled::Refused(c, Refusal::Lent);
@@ -78,8 +80,8 @@ pub fn put_answer<'a>(
     image: &'a [u8],
     answer: &mut [u8],
 ) -> Written
-    ensures fact_1 { told_written result ≡ answer_written (told_reply r (share_of area.now number) image.now) answer.old }
-    ensures fact_2 { answer.new ≡ answer_left (told_reply r (share_of area.now number) image.now) answer.old }
+    ensures told { told_written result ≡ answer_written (told_reply r (share_of area.now number) image.now) answer.old }
+    ensures left { answer.new ≡ answer_left (told_reply r (share_of area.now number) image.now) answer.old }
 {
     let share = octets::part(area, 8192 * (number as usize), 8192);
     answer::write_answer(r, share, image, answer)

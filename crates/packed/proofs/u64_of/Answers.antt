@@ -1,0 +1,10 @@
+-- The number at the place within the table.
+use Rattle.format.proofs.Places.{number_in}
+use mathlib.Core.Path.{sym, ◌∙◌}
+use Prim.Native.Nat.{◌*◌}
+use Rattle.packed.proofs.u64_of.Goals as goal
+
+pub returns : goal.returns
+returns c =
+    let a = c.args in
+    c.u64_at.ensures ∙ sym (number_in 8 a.k (40 * a.i) a.t.now c.requires.1)

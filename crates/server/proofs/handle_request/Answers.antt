@@ -1,0 +1,23 @@
+-- Refused, or accepted.
+use Rattle.picks.proofs.Picks.{at_case}
+use Rattle.protocol.specs.Calls.{told_checked}
+use Rattle.protocol.specs.Request.{on_verdict, request_of}
+use mathlib.Core.Path.{refl, sym, ap, ◌∙◌}
+use Rattle.server.proofs.handle_request.Goals as goal
+
+pub accepted-requires : goal.accepted-requires
+accepted-requires c = sym c.check_request-checked.ensures ∙ ap told_checked c.in-Accepted.is
+
+pub returns-in-Refused : goal.returns-in-Refused
+unfolding request_of on_verdict
+returns-in-Refused c =
+    let a = c.args in
+    let f = on_verdict a.client a.clock a.request.now a.image.now a.answer.now a.t a.area.now in
+    at_case (λ r. f (told_checked r)) c.in-Refused.is (refl) ∙ ap f c.check_request-checked.ensures
+
+pub returns-in-Accepted : goal.returns-in-Accepted
+unfolding request_of on_verdict
+returns-in-Accepted c =
+    let a = c.args in
+    let f = on_verdict a.client a.clock a.request.now a.image.now a.answer.now a.t a.area.now in
+    at_case (λ r. f (told_checked r)) c.in-Accepted.is c.accepted.ensures ∙ ap f c.check_request-checked.ensures
