@@ -1,4 +1,6 @@
 // The marking of an exercise: what the frames of a recording say of it, call by call, and the mark that this comes to. It rests on the frames alone, as they were sent.
+#![tactic(auto)]
+
 ghost use Rattle.std.specs.Prelude.{◌≡◌};
 ghost use Rattle.marking.specs.Marks.{asks_of, last_event, reading_event, piece_event, denial_event, event_where, first_of, denied, with_piece, with_end, with_finish, opens, asked, marks_after, answered_marks, refused_marks, unmarked_of, denial_mark, unfinished_mark, mark_of, empty_book, anew_book, noted_of, answered_book, refused_book};
 
@@ -7,7 +9,7 @@ use reading::frame::Frame;
 use reading::{Piece, Reading, frame, rows};
 
 // An exercise: the object that is to be read, and its length.
-#[derive(Drop)]
+#[derive(Clone, Copy)]
 pub struct Exercise {
     pub index: u16,
     pub sub: u8,
@@ -15,7 +17,7 @@ pub struct Exercise {
 }
 
 // What a call says of the exercise.
-#[derive(Drop)]
+#[derive(Clone, Copy)]
 pub enum Event {
     // A client's opening was answered.
     Opened,
@@ -35,7 +37,7 @@ pub enum Event {
 }
 
 // What denied an object: nothing, an abort's code, or a refusal's number.
-#[derive(Drop)]
+#[derive(Clone, Copy)]
 pub enum Denial {
     Nothing,
     Code(u32),
@@ -43,7 +45,7 @@ pub enum Denial {
 }
 
 // What the events so far come to: the first denial, how far the reading went that came furthest, the code that ended the last one, and the length of the first finish that has another length than the exercise.
-#[derive(Drop)]
+#[derive(Clone, Copy)]
 pub struct Marks {
     pub opened: bool,
     pub asked: bool,
@@ -58,14 +60,14 @@ pub struct Marks {
 }
 
 // What is marked so far: the marks, and each client's reading.
-#[derive(Drop)]
+#[derive(Clone, Copy)]
 pub struct Book {
     pub marks: Marks,
     pub readings: [Reading; 8],
 }
 
 // What an answer comes to: what it is, the client's reading after it, what it says of the exercise, and the book.
-#[derive(Drop)]
+#[derive(Clone, Copy)]
 pub struct Noted {
     pub piece: Piece,
     pub reading: Reading,
@@ -74,7 +76,7 @@ pub struct Noted {
 }
 
 // The mark: passed, finished with another length, or the first step of the procedure that is missing.
-#[derive(Drop)]
+#[derive(Clone, Copy)]
 pub enum Mark {
     Passed,
     OtherLength(u32),

@@ -15,7 +15,7 @@ pub const COMMAND: u8 = 2;
 pub const UNREADABLE: u8 = 3;
 
 // A frame. Numbers of parts that it lacks are 0.
-#[derive(Drop)]
+#[derive(Clone, Copy)]
 pub struct Frame {
     pub kind: u8,
     pub receive: u8,

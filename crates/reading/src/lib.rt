@@ -1,4 +1,6 @@
 // What a client is sent of an object: the pieces in the frames that answer it, how many bytes they are, and their CRC-32. It rests on the frames alone, as they were sent.
+#![tactic(auto)]
+
 pub mod frame;
 pub mod rows;
 
@@ -10,7 +12,7 @@ use frame::Frame;
 use protocol::SdoClientInfo;
 
 // What an answer is to a reading: no part of it, the whole value, its first piece with the size in Initiate, a later one, the last one, a piece sent before, or an abort with its code.
-#[derive(Drop)]
+#[derive(Clone, Copy)]
 pub enum Piece {
     Other,
     Whole,
@@ -22,7 +24,7 @@ pub enum Piece {
 }
 
 // A client's reading of an object: whether it is running, the size in Initiate, how many bytes were sent, and the CRC-32's register after them.
-#[derive(Drop)]
+#[derive(Clone, Copy)]
 pub struct Reading {
     pub running: bool,
     pub client: SdoClientInfo,

@@ -1,4 +1,6 @@
 // Scripts of calls, which are also the bench's recordings: oracle/REPLAY.md has the format. What the items lend, and the calls on what is lent.
+#![tactic(auto)]
+
 pub mod told;
 
 ghost use Rattle.std.specs.Prelude.{◌≡◌, ◌≤◌, min, length};
@@ -26,7 +28,7 @@ const LENT_RECORDS: u8 = 9;
 const RECORDS: u8 = 8;
 
 // How much of each buffer is lent from here on, how many records, and the table.
-#[derive(Drop)]
+#[derive(Clone, Copy)]
 pub struct Lent {
     pub answer: usize,
     pub area: usize,
@@ -36,7 +38,7 @@ pub struct Lent {
 }
 
 // What an item leaves: whether it is one that is known, whether it is a call, what the call says, and what is lent after it.
-#[derive(Drop)]
+#[derive(Clone, Copy)]
 pub struct Played {
     pub known: bool,
     pub call: bool,

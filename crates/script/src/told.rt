@@ -9,7 +9,7 @@ ghost use Rattle.script.specs.Outcomes.{only, answers_to, due_at, request_says, 
 use protocol::{NextAction, Outcome, Refusal, SdoClientInfo, Ticked};
 
 // What a call of any kind says: the transcript's code (0 an answer, 1 to 9 a refusal, 254 a deadline, 255 nothing), an answer's client and length, a deadline.
-#[derive(Drop)]
+#[derive(Clone, Copy)]
 pub struct Told {
     pub code: u8,
     pub client: SdoClientInfo,

@@ -1,4 +1,6 @@
 // What a request asks and what an answer gives, in words.
+#![tactic(auto)]
+
 ghost use Rattle.std.specs.Prelude.{◌≡◌};
 ghost use Rattle.show.specs.Text.{page_at, laid};
 ghost use Rattle.steps.specs.Steps.{empty_text, named_text, read_text, amount_of, written_text, write_text, looked_text, coded, own_abort_text, opening_text, acted_text, asked_text, request_text, range_text, piece_text, whole_text, taken_text, other_text, aborted_text, answer_text};

@@ -1,4 +1,6 @@
 // Clients, clocks, frames, refusals and aborts in words for a trainer, laid on a page.
+#![tactic(auto)]
+
 ghost use Rattle.std.specs.Prelude.{◌≡◌, []};
 ghost use Rattle.picks.specs.Pick.{pick};
 ghost use Rattle.show.specs.Text.{page_at, laid, entry};

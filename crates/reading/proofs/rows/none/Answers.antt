@@ -1,0 +1,5 @@
+-- Eight of nobody. Assumes nothing.
+use Rattle.reading.proofs.rows.none.Goals as goal
+
+pub returns : goal.returns
+returns c = cc
