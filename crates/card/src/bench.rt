@@ -4,6 +4,7 @@ ghost use Rattle.std.specs.Prelude.{◌≤◌};
 use crate::rows::Score;
 use crate::{print, rows};
 use protocol::{Connection, Outcome, Refusal, SdoClientInfo, SdoServerState, Ticked};
+use std::io;
 
 // What every byte of the answer buffer is before a call.
 const FILL: u8 = 0xA5;
@@ -24,14 +25,14 @@ pub const CLOSED: u8 = 5;
 pub const MORE: u8 = 6;
 
 // The server between calls, and the score so far. The area and the image are lent beside it.
-#[derive(Drop)]
+#[derive(Clone, Copy)]
 pub struct Bench {
     pub table: [Connection; 8],
     pub score: Score,
 }
 
 // What should come of a call, beside the bytes that begin its answer: which part of the image follows them, the refusal's number (0 for none), and what the call leaves.
-#[derive(Drop)]
+#[derive(Clone, Copy)]
 pub struct Due {
     pub from: usize,
     pub size: usize,
@@ -40,7 +41,7 @@ pub struct Due {
 }
 
 // What came of a call.
-#[derive(Drop)]
+#[derive(Clone, Copy)]
 struct Came {
     len: usize,
     refused: u8,
@@ -156,7 +157,7 @@ fn left_in(t: [Connection; 8]) -> u8 {
     DROPPED
 }
 
-fn say_left(left: u8) {
+fn say_left(rt: &impl Print, left: u8) -> io::Result<()> {
     let table = b"; no record in use
 ; Opening
 ; Established
@@ -165,8 +166,8 @@ fn say_left(left: u8) {
 ; Closed
 ; more than one record in use
 ";
-    print::say(show::line(table, left));
-    print::say(b"\n");
+    print::say(rt, show::line(table, left))?;
+    print::say(rt, b"\n")
 }
 
 fn refusal_number(x: Refusal) -> u8 {
@@ -231,61 +232,71 @@ fn put_due(head: &[u8], object: &[u8], due: Due, wanted: &mut [u8]) -> usize {
 fn is_right(came: Came, answer: &[u8], image: &[u8], head: &[u8], object: &[u8], due: Due) -> bool {
     let mut wanted = [FILL; 1468];
     let n = put_due(head, object, due, &mut wanted);
-    check::same(answer, &wanted)
+    (answer == wanted.as_slice())
         & (came.len == n)
         & (came.refused == due.refused)
         & (came.left == due.left)
-        & check::same(image, object)
+        & (image == object)
 }
 
-fn say_given(bytes: &[u8]) {
-    print::say(b"\n            given ");
-    print::say_start(bytes, 24);
-    print::say(b"\n");
+fn say_given(rt: &impl Print, bytes: &[u8]) -> io::Result<()> {
+    print::say(rt, b"\n            given ")?;
+    print::say_start(rt, bytes, 24)?;
+    print::say(rt, b"\n")
 }
 
-fn say_clock(clock: u64) {
+fn say_clock(rt: &impl Print, clock: u64) -> io::Result<()> {
     print::say_filled(
+        rt,
         b"an upload due at 1000000 without retries\n            given  a tick at #\n",
         &[clock],
-    );
+    )
 }
 
 // What came of a call, in words.
-fn say_came(came: Came, answer: &[u8]) {
-    print::say(b"            came  ");
-    print::say_start(octets::part(answer, 0, came.len), 16);
+fn say_came(rt: &impl Print, came: Came, answer: &[u8]) -> io::Result<()> {
+    print::say(rt, b"            came  ")?;
+    print::say_start(rt, octets::part(answer, 0, came.len), 16)?;
     if came.refused > 0 {
-        print::say_filled(b" refused with #", &[came.refused as u64]);
+        print::say_filled(rt, b" refused with #", &[came.refused as u64])?;
     } else if came.len == 0 {
-        print::say(b" nothing");
+        print::say(rt, b" nothing")?;
     }
-    say_left(came.left);
+    say_left(rt, came.left)
 }
 
 // What was due, where something else came.
-fn say_due(head: &[u8], due: Due) {
-    print::say(b"            due   ");
-    print::say(head);
+fn say_due(rt: &impl Print, head: &[u8], due: Due) -> io::Result<()> {
+    print::say(rt, b"            due   ")?;
+    print::say(rt, head)?;
     if due.size > 0 {
-        print::say_filled(b" and # bytes of the object", &[due.size as u64]);
+        print::say_filled(rt, b" and # bytes of the object", &[due.size as u64])?;
     }
     if due.refused > 0 {
-        print::say_filled(b" refused with #", &[due.refused as u64]);
+        print::say_filled(rt, b" refused with #", &[due.refused as u64])?;
     }
-    say_left(due.left);
+    say_left(rt, due.left)
 }
 
 // The end of a call's row.
-fn say_outcome(came: Came, answer: &[u8], same: bool, head: &[u8], due: Due) {
-    say_came(came, answer);
+fn say_outcome(
+    rt: &impl Print,
+    came: Came,
+    answer: &[u8],
+    same: bool,
+    head: &[u8],
+    due: Due,
+) -> io::Result<()> {
+    say_came(rt, came, answer)?;
     if !same {
-        say_due(head, due);
+        say_due(rt, head, due)?;
     }
+    Ok(())
 }
 
 // A request of the client at clock 0, as bytes. `object` is the image as it should be after the call.
 pub fn asks(
+    rt: &impl Print,
     b: Bench,
     area: &mut [u8],
     image: &mut [u8],
@@ -294,7 +305,7 @@ pub fn asks(
     bytes: &[u8],
     head: &[u8],
     due: Due,
-) -> Bench {
+) -> io::Result<Bench> {
     let mut answer = [FILL; 1468];
     let t = b.table;
     let r = owned::handle_request(t, area, image, &mut answer, client(), 0, bytes);
@@ -302,22 +313,22 @@ pub fn asks(
     let outcome = r.outcome;
     let came = requested(outcome, after);
     let same = is_right(came, &answer, image, head, object, due);
-    let score = rows::verdict(b.score, same);
-    print::say(what);
-    say_given(bytes);
-    say_outcome(came, &answer, same, head, due);
-    Bench {
+    let score = rows::verdict(rt, b.score, same)?;
+    print::say(rt, what)?;
+    say_given(rt, bytes)?;
+    say_outcome(rt, came, &answer, same, head, due)?;
+    Ok(Bench {
         table: after,
         score: score,
-    }
+    })
 }
 
 // What a call leaves, by its word.
 fn left_of(word: &[u8]) -> u8 {
-    if check::same(word, b"Opening") {
+    if word == b"Opening".as_slice() {
         return OPENING;
     }
-    if check::same(word, b"upload") {
+    if word == b"upload".as_slice() {
         return UPLOAD;
     }
     DROPPED
@@ -337,7 +348,14 @@ fn due_of(text: &[u8]) -> Due {
 }
 
 // A request of a line: what is printed, the request, the bytes that begin its answer, the image's part behind them, and what is left.
-fn step(b: Bench, area: &mut [u8], image: &mut [u8], object: &[u8], line: &[u8]) -> Bench {
+fn step(
+    rt: &impl Print,
+    b: Bench,
+    area: &mut [u8],
+    image: &mut [u8],
+    object: &[u8],
+    line: &[u8],
+) -> io::Result<Bench> {
     let mut space = [0u8; 32];
     let what = show::before(line, b'|');
     let given = show::behind(line, b'|');
@@ -346,6 +364,7 @@ fn step(b: Bench, area: &mut [u8], image: &mut [u8], object: &[u8], line: &[u8])
     let n = rows::read(show::before(given, b'|'), &mut space);
     let bytes = octets::part(&space, 0, n);
     asks(
+        rt,
         b,
         area,
         image,
@@ -358,19 +377,24 @@ fn step(b: Bench, area: &mut [u8], image: &mut [u8], object: &[u8], line: &[u8])
 }
 
 // Plays the requests of a text, one to a line. `object` is the image as it should be after each.
-pub fn plays(mut b: Bench, area: &mut [u8], image: &mut [u8], object: &[u8], text: &[u8]) -> Bench {
+pub fn plays(
+    rt: &impl Print,
+    mut b: Bench,
+    area: &mut [u8],
+    image: &mut [u8],
+    object: &[u8],
+    text: &[u8],
+) -> io::Result<Bench> {
     let mut at = 0;
-    let mut turns = text.len();
-    while turns > 0 {
+    for _ in 0..text.len() {
         let line = show::before(octets::rest(text, at), b'\n');
-        b = step(b, area, image, object, line);
+        b = step(rt, b, area, image, object, line)?;
         at = std::num::wrapping_add_usize(at, std::num::wrapping_add_usize(line.len(), 1));
         if text.len() <= at {
-            return b;
+            return Ok(b);
         }
-        turns -= 1;
     }
-    b
+    Ok(b)
 }
 
 // The length of an image, which is at most that of an object of 8,192 bytes.
@@ -385,25 +409,32 @@ fn image_length(first: &[u8]) -> usize
 }
 
 // Plays a text on an image and an area that begins with the bytes 1 to 6, and answers the score.
-pub fn script(b: Bench, first: &[u8], object: &[u8], text: &[u8]) -> Score {
-    let mut area = io::large_buffer();
+pub fn script(
+    rt: &impl Print,
+    b: Bench,
+    first: &[u8],
+    object: &[u8],
+    text: &[u8],
+) -> io::Result<Score> {
+    let mut area = [0u8; 65536];
     octets::copy_at(&mut area, 0, &[1, 2, 3, 4, 5, 6]);
     let mut space = [0u8; 8206];
     octets::copy_at(&mut space, 0, first);
     let n = image_length(first);
-    let ended = plays(b, &mut area, &mut space[0..n], object, text);
-    ended.score
+    let ended = plays(rt, b, &mut area, &mut space[0..n], object, text)?;
+    Ok(ended.score)
 }
 
 // A tick, on an image that it leaves as it is.
 pub fn ticks<'a>(
+    rt: &impl Print,
     b: Bench,
     area: &'a [u8],
     image: &'a [u8],
     clock: u64,
     head: &[u8],
     due: Due,
-) -> Bench {
+) -> io::Result<Bench> {
     let mut answer = [FILL; 1468];
     let t = b.table;
     let r = owned::tick(t, area, image, &mut answer, clock);
@@ -411,11 +442,11 @@ pub fn ticks<'a>(
     let outcome = r.outcome;
     let came = ticked(outcome, after);
     let same = is_right(came, &answer, image, head, image, due);
-    let score = rows::verdict(b.score, same);
-    say_clock(clock);
-    say_outcome(came, &answer, same, head, due);
-    Bench {
+    let score = rows::verdict(rt, b.score, same)?;
+    say_clock(rt, clock)?;
+    say_outcome(rt, came, &answer, same, head, due)?;
+    Ok(Bench {
         table: after,
         score: score,
-    }
+    })
 }

@@ -2,13 +2,12 @@
 use crate::bench;
 use crate::rows::Score;
 use protocol::{Deadline, SdoServerState, SdoTransferState};
+use std::io;
 
 // Byte i of an image becomes i times 31 plus i / 251, modulo 256.
 fn fill(image: &mut [u8]) {
-    let mut i = 0;
-    while i < image.len() {
+    for i in 0..image.len() {
         octets::store_u8(image, i, ((i % 256 * 31 + i / 251 % 256) % 256) as u8);
-        i += 1;
     }
 }
 
@@ -21,53 +20,53 @@ fn put_object(image: &mut [u8], n: u16) {
 }
 
 // The read of a value of two bytes, and of one that is absent.
-fn held_row(s: Score) -> Score {
+fn held_row(rt: &impl Print, s: Score) -> io::Result<Score> {
     let object = [1, 0, 0x01, 0x20, 1, 0, 14, 0, 0, 0, 2, 0, 2, 0, 0x34, 0x12];
     let text = b"a new client| 00 01 00 00| 01 01 00 00 00 00 10 00 00 00 00 00| 00 00 00 00|Opening
 then a read of 2001/1, which holds 34 12| 02 06 00 00 00 07 00 02 04 00 00 00 01 20 01 00| 06 06 00 00 00 07 10 00 02 00 00 00 34 12| 00 00 00 00|dropped";
-    bench::script(bench::empty(s), &object, &object, text)
+    bench::script(rt, bench::empty(s), &object, &object, text)
 }
 
-fn absent_row(s: Score) -> Score {
+fn absent_row(rt: &impl Print, s: Score) -> io::Result<Score> {
     let text = b"a new client| 00 01 00 00| 01 01 00 00 00 00 10 00 00 00 00 00| 00 00 00 00|Opening
 then the same read, 2001 absent| 02 06 00 00 00 07 00 02 04 00 00 00 01 20 01 00| FE 04 00 00 00 07 30 00 04 00 00 00 00 00 02 06| 00 00 00 00|dropped";
-    bench::script(bench::empty(s), &[0, 0], &[0, 0], text)
+    bench::script(rt, bench::empty(s), &[0, 0], &[0, 0], text)
 }
 
-fn undecodable_row(s: Score) -> Score {
+fn undecodable_row(rt: &impl Print, s: Score) -> io::Result<Score> {
     let text =
         b"command 05 07 00| 00 00 00 00 05 07 00| FC 00 00 00 00 05 30 00 04 00 00 00 01 00 04 05| 00 00 00 00|dropped";
-    bench::script(bench::empty(s), &[0, 0], &[0, 0], text)
+    bench::script(rt, bench::empty(s), &[0, 0], &[0, 0], text)
 }
 
 // The rows of a read answered in one frame, and of a command that is none.
-pub fn reading_rows(s: Score) -> Score {
-    undecodable_row(absent_row(held_row(s)))
+pub fn reading_rows(rt: &impl Print, s: Score) -> io::Result<Score> {
+    undecodable_row(rt, absent_row(rt, held_row(rt, s)?)?)
 }
 
 // A read of a value of n bytes.
-fn upload_row(s: Score, n: u16, text: &[u8]) -> Score {
+fn upload_row(rt: &impl Print, s: Score, n: u16, text: &[u8]) -> io::Result<Score> {
     let mut space = [0u8; 8206];
     put_object(&mut space, n);
     let object = octets::part(&space, 0, 14 + (n as usize));
-    bench::script(bench::empty(s), object, object, text)
+    bench::script(rt, bench::empty(s), object, object, text)
 }
 
-fn short_upload_rows(s: Score) -> Score {
+fn short_upload_rows(rt: &impl Print, s: Score) -> io::Result<Score> {
     let text = b"a new client| 00 01 00 00| 01 01 00 00 00 00 10 00 00 00 00 00| 00 00 00 00|Opening
 a read of 1452 bytes: one Expedited| 02 06 00 00 00 07 00 02 04 00 00 00 01 20 01 00| 06 06 00 00 00 07 10 00 AC 05 00 00| 0E 00 AC 05|dropped";
-    let s = upload_row(s, 1452, text);
+    let s = upload_row(rt, s, 1452, text)?;
     let text = b"a new client| 00 01 00 00| 01 01 00 00 00 00 10 00 00 00 00 00| 00 00 00 00|Opening
 a read of 1453 bytes: Initiate of 1452| 02 06 00 00 00 07 00 02 04 00 00 00 01 20 01 00| 06 06 00 00 00 07 50 02 AC 05 00 00 AD 05 00 00| 0E 00 AC 05|upload
 acknowledged: Complete of 1| 06 0A 00 00| 0A 0A 00 00 00 07 D0 02 01 00 00 00| BA 05 01 00|dropped";
-    upload_row(s, 1453, text)
+    upload_row(rt, s, 1453, text)
 }
 
-fn long_upload_rows(s: Score) -> Score {
+fn long_upload_rows(rt: &impl Print, s: Score) -> io::Result<Score> {
     let text = b"a new client| 00 01 00 00| 01 01 00 00 00 00 10 00 00 00 00 00| 00 00 00 00|Opening
 a read of 2904 bytes: Initiate of 1452| 02 06 00 00 00 07 00 02 04 00 00 00 01 20 01 00| 06 06 00 00 00 07 50 02 AC 05 00 00 58 0B 00 00| 0E 00 AC 05|upload
 acknowledged: Complete of 1452| 06 0A 00 00| 0A 0A 00 00 00 07 D0 02 AC 05 00 00| BA 05 AC 05|dropped";
-    let s = upload_row(s, 2904, text);
+    let s = upload_row(rt, s, 2904, text)?;
     let text = b"a new client| 00 01 00 00| 01 01 00 00 00 00 10 00 00 00 00 00| 00 00 00 00|Opening
 a read of 8192 bytes, six pieces: Initiate of 1452| 02 06 00 00 00 07 00 02 04 00 00 00 01 20 01 00| 06 06 00 00 00 07 50 02 AC 05 00 00 00 20 00 00| 0E 00 AC 05|upload
 acknowledged: Segment of 1452| 06 0A 00 00| 0A 0A 00 00 00 07 90 02 AC 05 00 00| BA 05 AC 05|upload
@@ -75,12 +74,12 @@ acknowledged: Segment of 1452| 0A 0E 00 00| 0E 0E 00 00 00 07 90 02 AC 05 00 00|
 acknowledged: Segment of 1452| 0E 12 00 00| 12 12 00 00 00 07 90 02 AC 05 00 00| 12 11 AC 05|upload
 acknowledged: Segment of 1452| 12 16 00 00| 16 16 00 00 00 07 90 02 AC 05 00 00| BE 16 AC 05|upload
 acknowledged: Complete of 932| 16 1A 00 00| 1A 1A 00 00 00 07 D0 02 A4 03 00 00| 6A 1C A4 03|dropped";
-    upload_row(s, 8192, text)
+    upload_row(rt, s, 8192, text)
 }
 
 // An upload that is due at 1,000,000 with no retries left.
-fn tick_row(s: Score) -> Score {
-    let area = io::large_buffer();
+fn tick_row(rt: &impl Print, s: Score) -> io::Result<Score> {
+    let area = [0u8; 65536];
     let image = [0, 0];
     let transfer = SdoTransferState {
         transaction: 9,
@@ -94,15 +93,15 @@ fn tick_row(s: Score) -> Score {
     };
     let b = bench::in_state(s, 5, 7, SdoServerState::SegmentedUpload(transfer));
     let due = bench::leaves(bench::UPLOAD);
-    let b = bench::ticks(b, &area, &image, 999999, b"", due);
+    let b = bench::ticks(rt, b, &area, &image, 999999, b"", due)?;
     let head = b" FE 00 00 00 00 09 30 00 04 00 00 00 00 00 04 05";
     let due = bench::leaves(bench::DROPPED);
-    let b = bench::ticks(b, &area, &image, 1000000, head, due);
-    b.score
+    let b = bench::ticks(rt, b, &area, &image, 1000000, head, due)?;
+    Ok(b.score)
 }
 
 // A request in a download of ten bytes to 2001/1, of which six are there.
-fn download_row(s: Score, body: &[u8], text: &[u8]) -> Score {
+fn download_row(rt: &impl Print, s: Score, body: &[u8], text: &[u8]) -> io::Result<Score> {
     let image = [
         1, 0, 0x01, 0x20, 1, 0, 14, 0, 0, 0, 10, 0, 10, 0, 0, 0, 0, 0, 0, 0, 0, 0, 0, 0,
     ];
@@ -119,43 +118,67 @@ fn download_row(s: Score, body: &[u8], text: &[u8]) -> Score {
         stored: false,
     };
     let b = bench::in_state(s, 1, 1, SdoServerState::SegmentedDownload(transfer));
-    bench::script(b, &image, &object, text)
+    bench::script(rt, b, &image, &object, text)
 }
 
-fn download_rows(s: Score) -> Score {
+fn download_rows(rt: &impl Print, s: Score) -> io::Result<Score> {
     let text =
         b"download total 10, offset 6: Segment of 5| 06 0A 00 00 00 07 80 01 05 00 00 00 00 00 00 00 00| FE 08 00 00 00 07 30 00 04 00 00 00 10 00 07 06| 00 00 00 00|dropped";
-    let s = download_row(s, b"", text);
+    let s = download_row(rt, s, b"", text)?;
     let text =
         b"the same: Complete of 3| 06 0A 00 00 00 07 C0 01 03 00 00 00 00 00 00| FE 08 00 00 00 07 30 00 04 00 00 00 13 00 07 06| 00 00 00 00|dropped";
-    let s = download_row(s, b"", text);
+    let s = download_row(rt, s, b"", text)?;
     let text =
         b"the same: Complete of 4, which writes 01 to 0A into 2001/1| 06 0A 00 00 00 07 C0 01 04 00 00 00 07 08 09 0A| 0A 0A 00 00 00 07 10 00 00 00 00 00| 00 00 00 00|dropped";
-    download_row(s, &[1, 2, 3, 4, 5, 6, 7, 8, 9, 10], text)
+    download_row(rt, s, &[1, 2, 3, 4, 5, 6, 7, 8, 9, 10], text)
 }
 
 // The rows of uploads, of the tick and of downloads.
-pub fn transfer_rows(s: Score) -> Score {
-    let s = long_upload_rows(short_upload_rows(s));
-    download_rows(tick_row(s))
+pub fn transfer_rows(rt: &impl Print, s: Score) -> io::Result<Score> {
+    let s = long_upload_rows(rt, short_upload_rows(rt, s)?)?;
+    download_rows(rt, tick_row(rt, s)?)
 }
 
 // A request of a length, a Nil of transaction 7 with zeros behind it.
-fn length_row(s: Score, what: &[u8], n: usize, head: &[u8], due: bench::Due) -> Score {
-    let mut area = io::large_buffer();
+fn length_row(
+    rt: &impl Print,
+    s: Score,
+    what: &[u8],
+    n: usize,
+    head: &[u8],
+    due: bench::Due,
+) -> io::Result<Score> {
+    let mut area = [0u8; 65536];
     let mut image = [0, 0];
     let mut space = [0u8; 1501];
     octets::store_u8(&mut space, 5, 7);
     let b = bench::empty(s);
     let bytes = octets::part(&space, 0, n);
-    let b = bench::asks(b, &mut area, &mut image, &[0, 0], what, bytes, head, due);
-    b.score
+    let b = bench::asks(
+        rt,
+        b,
+        &mut area,
+        &mut image,
+        &[0, 0],
+        what,
+        bytes,
+        head,
+        due,
+    )?;
+    Ok(b.score)
 }
 
 // A request of 1,500 bytes is served, one of 1,501 is refused with 6.
-pub fn length_rows(s: Score) -> Score {
+pub fn length_rows(rt: &impl Print, s: Score) -> io::Result<Score> {
     let what = b"a request of 1500 bytes";
     let head = b" FC 00 00 00 00 07 10 00 00 00 00 00";
-    let s = length_row(s, what, 1500, head, bench::leaves(bench::DROPPED));
-    length_row(s, b"a request of 1501 bytes", 1501, b"", bench::refuses(6))
+    let s = length_row(rt, s, what, 1500, head, bench::leaves(bench::DROPPED))?;
+    length_row(
+        rt,
+        s,
+        b"a request of 1501 bytes",
+        1501,
+        b"",
+        bench::refuses(6),
+    )
 }

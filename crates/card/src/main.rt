@@ -1,4 +1,6 @@
 // Plays every row of document 01's bench card on the proved code, and the layouts of the DS 301 tables that the Rust cites, and prints what came out of each.
+#![tactic(auto)]
+
 mod bench;
 mod calls;
 mod codecs;
@@ -7,8 +9,9 @@ mod rows;
 mod tables;
 
 use crate::rows::Score;
+use std::io;
 
-fn codec_rows(s: Score) -> Score {
+fn codec_rows(rt: &impl Print, s: Score) -> io::Result<Score> {
     let text = b"Bench card: the rows that the codec decides, bytes in hex. A header is
 read to numbers and marks, a command to transaction, response, aborted,
 segmentation, id, size and payload, an undecodable one to its transaction.
@@ -25,22 +28,31 @@ H header numbers 63, 1, marks 2, 0| 3F 01 02 00| FE 04 00 00
 X abort, id and code| 07 00 00 02 06| 00 07 30 00 04 00 00 00 00 00 02 06
 C undecodable| 05 07 00| 05
 H header numbers 63, 0, marks 2, 0| 3F 00 02 00| FE 00 00 00";
-    codecs::rows(s, text)
+    codecs::rows(rt, s, text)
 }
 
-fn call_rows(s: Score) -> Score {
-    print::say(b"Bench card: the rows that are calls. The whole answer buffer is compared,\n");
-    print::say(b"with the records in use and the image; long frames are printed in part.\n");
-    calls::length_rows(calls::transfer_rows(calls::reading_rows(s)))
+fn call_rows(rt: &impl Print, s: Score) -> io::Result<Score> {
+    print::say(
+        rt,
+        b"Bench card: the rows that are calls. The whole answer buffer is compared,\n",
+    )?;
+    print::say(
+        rt,
+        b"with the records in use and the image; long frames are printed in part.\n",
+    )?;
+    calls::length_rows(rt, calls::transfer_rows(rt, calls::reading_rows(rt, s)?)?)
 }
 
-fn table_rows(s: Score) -> Score {
-    print::say(b"DS 301: the tables that the Rust cites, as far as it follows them.\n");
-    tables::write_row(tables::read_rows(tables::layout_rows(s)))
+fn table_rows(rt: &impl Print, s: Score) -> io::Result<Score> {
+    print::say(
+        rt,
+        b"DS 301: the tables that the Rust cites, as far as it follows them.\n",
+    )?;
+    tables::write_row(rt, tables::read_rows(rt, tables::layout_rows(rt, s)?)?)
 }
 
-fn main() {
-    let s = codec_rows(Score { rows: 0, differ: 0 });
-    let s = table_rows(call_rows(s));
-    print::say_filled(b"# rows, # differ\n", &[s.rows, s.differ]);
+fn main(rt: HostRuntime) -> io::Result<()> {
+    let s = codec_rows(&rt, Score { rows: 0, differ: 0 })?;
+    let s = table_rows(&rt, call_rows(&rt, s)?)?;
+    print::say_filled(&rt, b"# rows, # differ\n", &[s.rows, s.differ])
 }

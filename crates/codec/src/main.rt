@@ -1,4 +1,6 @@
 // Plays the codec items of standard input on the codecs and writes what they answer as a transcript: oracle/README.md has both formats.
+#![tactic(auto)]
+
 ghost use Rattle.std.specs.Prelude.{◌+◌, ◌≤◌, length};
 ghost use Rattle.codec.specs.Within.{Within};
 
@@ -6,6 +8,7 @@ use protocol::{
     CommandId, CommandLayerHeader, CommandRead, DataSize, HeaderRead, IdRead, SdoCommand,
     SequenceLayerHeader, Written,
 };
+use std::io;
 
 // What every byte of a lent buffer is before a call.
 const FILL: u8 = 0xA5;
@@ -21,7 +24,7 @@ const MAX_BUFFER: u16 = 4096;
 const ROOM: usize = 4111;
 
 // How far a run is. The input buffer's bytes from start to end are not played yet; the first of them is byte `at` of the input. The output buffer's first out bytes are not written yet.
-#[derive(Drop)]
+#[derive(Clone, Copy)]
 struct Place {
     start: usize,
     end: usize,
@@ -96,7 +99,7 @@ fn encoding(written: Written, width: usize, buffer: &[u8], out: &mut [u8]) -> us
         }
         Written::BufferTooShort => {
             let fresh = [FILL; 4096];
-            let same = check::same(buffer, octets::part(&fresh, 0, buffer.len()));
+            let same = buffer == octets::part(&fresh, 0, buffer.len());
             answer(out, &[1, same as u8])
         }
     }
@@ -279,42 +282,42 @@ fn play_at(item: &[u8], out: &mut [u8], o: usize) -> usize
 }
 
 // Writes the output that waits. Where that fails, the run ends with nothing left to play.
-fn flushed(out: &[u8], mut p: Place) -> Place
+fn flushed(rt: &(impl Print + Eprint), out: &[u8], mut p: Place) -> Place
     requires { Within p }
     ensures { Within result }
 {
     let n = p.out;
     p.out = 0;
-    if io::write_all(libc::STDOUT_FILENO, octets::part(out, 0, n)) {
+    if rt.write_all(octets::part(out, 0, n)).is_ok() {
         return p;
     }
-    let text = b"codec: the transcript cannot be written\n";
-    io::write_all(libc::STDERR_FILENO, text);
+    let _ = eprintln!(rt; "codec: the transcript cannot be written");
     p.start = p.end;
     p.going = false;
     p
 }
 
 // Reads once into the buffer from n on, and answers how many bytes came: none at the end of the input, or where it cannot be read.
-fn read_at(buffer: &mut [u8], n: usize) -> usize
+fn read_at(reader: &mut impl io::Read, buffer: &mut [u8], n: usize) -> usize
     requires { n ≤ length buffer.old }
     ensures { n + result ≤ length buffer.old }
 {
-    let part = &mut buffer[n..];
-    let got = libc::read(libc::STDIN_FILENO, part);
-    io::count(got, part)
+    match reader.read(&mut buffer[n..]) {
+        Ok(got) => got,
+        Err(_) => 0,
+    }
 }
 
 // Moves what is not played yet to the front of the input buffer and reads once behind it.
-fn refilled(input: &mut [u8; 65536], mut p: Place) -> Place
+fn refilled(reader: &mut impl io::Read, input: &mut [u8; 65536], mut p: Place) -> Place
     requires { Within p }
     ensures { Within result }
 {
     let n = p.end - p.start;
-    let mut rest = io::large_buffer();
+    let mut rest = [0; 65536];
     octets::copy_at(&mut rest, 0, octets::part(input, p.start, n));
     octets::copy_at(input, 0, octets::part(&rest, 0, n));
-    let got = read_at(input, n);
+    let got = read_at(reader, input, n);
     p.start = 0;
     p.end = n + got;
     p.going = 0 < got;
@@ -322,17 +325,23 @@ fn refilled(input: &mut [u8; 65536], mut p: Place) -> Place
 }
 
 // One turn: the output is written, or more is read, or an item is played. An unknown item ends the run.
-fn turn(input: &mut [u8; 65536], out: &mut [u8; 65536], mut p: Place) -> Place
+fn turn(
+    rt: &(impl Print + Eprint),
+    reader: &mut impl io::Read,
+    input: &mut [u8; 65536],
+    out: &mut [u8; 65536],
+    mut p: Place,
+) -> Place
     requires { Within p }
     ensures { Within result }
 {
     if 65536 - p.out < ROOM {
-        return flushed(out, p);
+        return flushed(rt, out, p);
     }
     let left = p.end - p.start;
     let n = length_of(octets::part(input, p.start, left));
     if left < n {
-        return refilled(input, p);
+        return refilled(reader, input, p);
     }
     let put = play_at(octets::part(input, p.start, n), out, p.out);
     if put == 0 {
@@ -345,8 +354,13 @@ fn turn(input: &mut [u8; 65536], out: &mut [u8; 65536], mut p: Place) -> Place
     p
 }
 
-// Plays the input as far as it goes, and answers where it ended. A loop has to end: it counts its turns down from a number that no run uses up.
-fn played(input: &mut [u8; 65536], out: &mut [u8; 65536]) -> Place
+// Plays the input as far as it goes, and answers where it ended. A loop has to end: it counts its turns up to a number that no run reaches.
+fn played(
+    rt: &(impl Print + Eprint),
+    reader: &mut impl io::Read,
+    input: &mut [u8; 65536],
+    out: &mut [u8; 65536],
+) -> Place
     ensures { Within result }
 {
     let mut p = Place {
@@ -356,30 +370,33 @@ fn played(input: &mut [u8; 65536], out: &mut [u8; 65536]) -> Place
         out: 0,
         going: true,
     };
-    let mut turns = u64::MAX;
-    while turns > 0 {
-        p = turn(input, out, p);
+    for _ in 0..u64::MAX {
+        p = turn(rt, reader, input, out, p);
         if !p.going {
             return p;
         }
-        turns -= 1;
     }
     p
 }
 
 // Plays the input and writes the transcript. What is not played then begins with an item that is cut short or unknown.
-fn run(input: &mut [u8; 65536], out: &mut [u8; 65536]) {
-    let ended = played(input, out);
-    let p = flushed(out, ended);
+fn run(
+    rt: &(impl Input + Print + Eprint),
+    input: &mut [u8; 65536],
+    out: &mut [u8; 65536],
+) -> io::Result<()> {
+    let mut reader = rt.reader();
+    let ended = played(rt, &mut reader, input, out);
+    let p = flushed(rt, out, ended);
     if p.start < p.end {
-        io::write_all(libc::STDERR_FILENO, b"codec: item at byte ");
-        io::print_decimal(libc::STDERR_FILENO, p.at);
-        io::write_all(libc::STDERR_FILENO, b" is cut short or unknown\n");
+        let at = p.at;
+        eprintln!(rt; "codec: item at byte {at} is cut short or unknown")?;
     }
+    Ok(())
 }
 
-fn main() {
-    let mut input = io::large_buffer();
-    let mut out = io::large_buffer();
-    run(&mut input, &mut out);
+fn main(rt: HostRuntime) -> io::Result<()> {
+    let mut input = [0; 65536];
+    let mut out = [0; 65536];
+    run(&rt, &mut input, &mut out)
 }

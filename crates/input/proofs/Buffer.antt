@@ -28,10 +28,10 @@ moved_fits n s xs h = simp (length-append, length-take, length-drop) (omega arit
 pub front_kept : (n : ℕ) (xs ys : List ℕ) → n ≤ length xs → take n (take n xs ++ ys) ≡ take n xs
 front_kept n xs ys h = take_at (take n xs) ys n (length-take-le n xs h)
 
--- a read behind what is moved to the front
-pub refill : (input moved after : List ℕ) (w r : Window) (n got : ℕ) → n ≡ length (unplayed_of input w) → moved ≡ take n (drop w.start input) ++ drop n input → n + got ≤ length after → take n after ≡ take n moved → r ≡ record { start = 0; end = n + got; at = w.at; going = ltb 0 got } → (f : Read) × (after ≡ refilled_bytes f input w) × (r ≡ refilled_window f input w)
+-- a read behind what is moved to the front, and what is known of the bytes that came
+pub refill : (C : List ℕ → Type 0) (input moved after : List ℕ) (w r : Window) (n got : ℕ) → n ≡ length (unplayed_of input w) → moved ≡ take n (drop w.start input) ++ drop n input → n + got ≤ length after → take n after ≡ take n moved → r ≡ record { start = 0; end = n + got; at = w.at; going = ltb 0 got } → C (take got (drop n after)) → (f : Read) × (after ≡ refilled_bytes f input w) × (r ≡ refilled_window f input w) × C f.got
 unfolding unplayed_of refilled_bytes refilled_window
-refill input moved after w r n got en em fits kept er =
+refill C input moved after w r n got en em fits kept er came =
     let m = w.end - w.start in
     let ys = drop w.start input in
     let front : take n ys ≡ take m ys = rw (en, length-take m ys) (take_clamped m ys) in
@@ -42,4 +42,5 @@ refill input moved after w r n got en em fits kept er =
       record { got = g; past = drop got (drop n after) },
       sym (ap (λ (xs : List ℕ). xs ++ (g ++ drop got (drop n after))) (sym moves ∙ sym kept) ∙ ap (λ (xs : List ℕ). take n after ++ xs) (take-append-drop got (drop n after)) ∙ take-append-drop n after),
       rw (lg, ← en) er,
+      came,
     )

@@ -18,7 +18,7 @@ behind w n known =
     (record { start = (w.start + n) % 2 ^ 64; end = w.end; at = (w.at + n) % 2 ^ 64; going = w.going })
     (record { start = w.start; end = w.end; at = w.at; going = false })
 
--- a read of the input: the bytes that it got, and what stands in the buffer past them. Both are free: no contract says what a read brings.
+-- a read of the input: the bytes that it got, and what stands in the buffer past them. Both are free here; the contract of a refill says of the bytes that it got that the reader gave them, where it is known which bytes a reader has.
 pub record Read : Type 0 where
   pub got : List ℕ
   pub past : List ℕ

@@ -1,12 +1,17 @@
 // The input that a script is read from: a buffer of which a part is not played yet.
+#![tactic(auto)]
+
 ghost use Rattle.std.specs.Prelude.{◌≡◌, ◌+◌, ◌-◌, ◌≤◌, ◌++◌, length, take, drop};
+ghost use Rattle.std.specs.Io.KnownBytes.{Consumes};
 ghost use Rattle.input.specs.Runs.{at_start, unplayed_of, behind, Read, refilled_bytes, refilled_window};
+
+use std::io;
 
 // The buffer's length.
 pub const INPUT: usize = 262144;
 
 // How far a run is. The buffer's bytes from start to end are not played yet; the first of them is byte `at` of the input.
-#[derive(Drop)]
+#[derive(Clone, Copy)]
 pub struct Window {
     pub start: usize,
     pub end: usize,
@@ -54,13 +59,16 @@ pub fn passed(mut w: Window, n: usize, known: bool) -> Window
 }
 
 // Reads once into the buffer from n on, and answers how many bytes came: none at the end of the input, or where it cannot be read.
-fn read_at(buffer: &mut [u8], n: usize) -> usize
+fn read_at<R: io::Read>(reader: &mut R, buffer: &mut [u8], n: usize) -> usize
     requires { n ≤ length buffer.old }
-    ensures { (n + result ≤ length buffer.old) × (take n buffer.new ≡ take n buffer.old) }
+    ensures in_bounds { n + result ≤ length buffer.old }
+    ensures kept { take n buffer.new ≡ take n buffer.old }
+    ensures got { Consumes (R.remaining reader.old) (R.remaining reader.new) (take result (drop n buffer.new)) }
 {
-    let part = &mut buffer[n..];
-    let got = libc::read(libc::STDIN_FILENO, part);
-    io::count(got, part)
+    match reader.read(&mut buffer[n..]) {
+        Ok(got) => got,
+        Err(_) => 0,
+    }
 }
 
 // Moves n bytes from a place to the front of the input buffer.
@@ -76,12 +84,12 @@ fn move_to_front(input: &mut [u8], start: usize, n: usize)
 }
 
 // Moves what is not played yet to the front of the input buffer and reads once behind it. The run goes on if the read got anything.
-pub fn refilled(input: &mut [u8; INPUT], mut w: Window) -> Window
-    ensures { (f : Read) × (input.new ≡ refilled_bytes f input.old w) × (result ≡ refilled_window f input.old w) }
+pub fn refilled<R: io::Read>(reader: &mut R, input: &mut [u8; INPUT], mut w: Window) -> Window
+    ensures { (f : Read) × (input.new ≡ refilled_bytes f input.old w) × (result ≡ refilled_window f input.old w) × (Consumes (R.remaining reader.old) (R.remaining reader.new) f.got) }
 {
     let n = unplayed(input, w).len();
     move_to_front(input, w.start, n);
-    let got = read_at(input, n);
+    let got = read_at(reader, input, n);
     w.start = 0;
     w.end = n + got;
     w.going = 0 < got;

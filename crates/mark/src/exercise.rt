@@ -2,16 +2,18 @@
 ghost use Rattle.std.specs.Prelude.{◌≤◌};
 
 use marking::Exercise;
+use std::env::FillError;
+use std::rt::Env;
 
 // What the arguments are.
-#[derive(Drop)]
+#[derive(Clone, Copy)]
 pub enum Words {
     Marks(Exercise),
     Wrong,
 }
 
 // What a text is as a number.
-#[derive(Drop)]
+#[derive(Clone, Copy)]
 enum Number {
     Is(u32),
     No,
@@ -46,13 +48,11 @@ fn spelled(text: &[u8], hex: bool) -> u32
     ensures { result ≤ 65536 }
 {
     let mut n = 0;
-    let mut i = 0;
-    while i < text.len() {
-        n = with_digit(n, hex, text[i]);
+    for digit in text {
+        n = with_digit(n, hex, *digit);
         if n == 65536 {
             return n;
         }
-        i += 1;
     }
     n
 }
@@ -66,11 +66,22 @@ fn limited(text: &[u8], hex: bool, most: u32) -> Number {
     Number::Is(n)
 }
 
-// The number of an argument.
-fn argument(i: usize, hex: bool, most: u32) -> Number {
+// The number of an argument. One that is too long for a number counts as empty.
+fn argument(rt: &impl Env, i: usize, hex: bool, most: u32) -> Number {
     let mut text = [0; 8];
-    let n = os::arg(i, &mut text);
+    let n = rt.arg(i, &mut text).unwrap_or(0);
     limited(octets::part(&text, 0, n), hex, most)
+}
+
+// How many arguments there are, the program's name among them: 5 stands for more than 4.
+fn argument_count(rt: &impl Env) -> usize {
+    let mut text = [0; 8];
+    for i in 0..5 {
+        if let Err(FillError::NotPresent) = rt.arg(i, &mut text) {
+            return i;
+        }
+    }
+    5
 }
 
 // An exercise of three numbers.
@@ -92,8 +103,8 @@ fn of_numbers(index: Number, sub: Number, length: Number) -> Words {
 }
 
 // The exercise of the arguments: without any, the shuttle map of a gearbox controller.
-pub fn of_arguments() -> Words {
-    let count = os::arg_count();
+pub fn of_arguments(rt: &impl Env) -> Words {
+    let count = argument_count(rt);
     if count == 1 {
         return Words::Marks(Exercise {
             index: 0x2110,
@@ -103,9 +114,9 @@ pub fn of_arguments() -> Words {
     }
     if count == 4 {
         return of_numbers(
-            argument(1, true, 65535),
-            argument(2, false, 255),
-            argument(3, false, 65535),
+            argument(rt, 1, true, 65535),
+            argument(rt, 2, false, 255),
+            argument(rt, 3, false, 65535),
         );
     }
     Words::Wrong

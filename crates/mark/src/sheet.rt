@@ -5,9 +5,10 @@ use protocol::{Connection, SdoClientInfo, SdoServerState};
 use reading::frame::Frame;
 use reading::{Reading, frame};
 use script::Played;
+use std::io;
 
 // A finished reading of the exercise's object.
-#[derive(Drop)]
+#[derive(Clone, Copy)]
 pub struct Finish {
     pub call: u64,
     pub client: SdoClientInfo,
@@ -16,7 +17,7 @@ pub struct Finish {
 }
 
 // The sheet so far: how many calls, ticks that sent nothing and deadline queries there were, the book of marks and readings, the first finishes and their number, and the one that passed.
-#[derive(Drop)]
+#[derive(Clone, Copy)]
 pub struct Sheet {
     pub calls: u64,
     pub silent: u64,
@@ -86,12 +87,13 @@ fn with_event(s: Sheet, e: Exercise, event: Event, r: Reading) -> Sheet {
 
 // An answer: it is shown and marked. A tick's has no request.
 fn answered(
+    rt: &impl Print,
     mut s: Sheet,
     e: Exercise,
     client: SdoClientInfo,
     request: &[u8],
     answer: &[u8],
-) -> Sheet {
+) -> io::Result<Sheet> {
     let book = s.book;
     let noted = marking::answered(book, e, client, request, answer);
     let book = noted.book;
@@ -100,28 +102,34 @@ fn answered(
     let event = noted.event;
     let a = frame::read(answer);
     s.book = book;
-    print::say(b"  answer:  ");
-    print::say_answer(frame::read(request), a, piece, reading);
-    print::say_frame(a, answer);
-    with_event(s, e, event, reading)
+    print::say(rt, b"  answer:  ")?;
+    print::say_answer(rt, frame::read(request), a, piece, reading)?;
+    print::say_frame(rt, a, answer)?;
+    Ok(with_event(s, e, event, reading))
 }
 
 // A refusal: it is shown and marked.
-fn refused(mut s: Sheet, e: Exercise, request: &[u8], number: u8) -> Sheet {
+fn refused(
+    rt: &impl Print,
+    mut s: Sheet,
+    e: Exercise,
+    request: &[u8],
+    number: u8,
+) -> io::Result<Sheet> {
     let book = s.book;
     let book = marking::refused(book, e, request, number);
     s.book = book;
-    print::say(b"  answer:  none, refused with ");
-    print::say_refusal(number);
-    print::say(b"\n\n");
-    s
+    print::say(rt, b"  answer:  none, refused with ")?;
+    print::say_refusal(rt, number)?;
+    print::say(rt, b"\n\n")?;
+    Ok(s)
 }
 
 // The line that begins a step.
-fn say_head(s: Sheet, item: &[u8]) {
-    print::say_filled(b"Call # at ", &[s.calls]);
-    print::say_clock(items::clock_of(item));
-    print::say(b", ");
+fn say_head(rt: &impl Print, s: Sheet, item: &[u8]) -> io::Result<()> {
+    print::say_filled(rt, b"Call # at ", &[s.calls])?;
+    print::say_clock(rt, items::clock_of(item))?;
+    print::say(rt, b", ")
 }
 
 // Whether a state has taken a frame's number, so that the same number is a repeat.
@@ -142,116 +150,145 @@ fn is_repeat(row: [Connection; 8], client: SdoClientInfo, f: Frame) -> bool {
     c.used & is_open(state) & (c.receive == f.send) & (f.kind != frame::SHORT) & (f.rcon != 3)
 }
 
-fn say_request(row: [Connection; 8], client: SdoClientInfo, request: &[u8]) {
+fn say_request(
+    rt: &impl Print,
+    row: [Connection; 8],
+    client: SdoClientInfo,
+    request: &[u8],
+) -> io::Result<()> {
     let f = frame::read(request);
-    print::say_client(client);
-    print::say(b"\n  request: ");
-    print::say_request(f, request);
+    print::say_client(rt, client)?;
+    print::say(rt, b"\n  request: ")?;
+    print::say_request(rt, f, request)?;
     if is_repeat(row, client, f) {
-        print::say(b"; a repeat: it has the number of the frame before");
+        print::say(rt, b"; a repeat: it has the number of the frame before")?;
     }
-    print::say_frame(f, request);
+    print::say_frame(rt, f, request)
 }
 
 // The end of a step: it says where the client's connection is closed now.
-fn say_after(row: [Connection; 8], client: SdoClientInfo) {
+fn say_after(rt: &impl Print, row: [Connection; 8], client: SdoClientInfo) -> io::Result<()> {
     if 7 < table::place_of(row, client) {
-        print::say(b"  then:    the connection is closed\n");
+        print::say(rt, b"  then:    the connection is closed\n")?;
     }
-    print::say(b"\n");
+    print::say(rt, b"\n")
 }
 
 // A request and what came of it.
 fn request_step(
+    rt: &impl Print,
     s: Sheet,
     e: Exercise,
     item: &[u8],
     row: [Connection; 8],
     done: Played,
     answer: &[u8],
-) -> Sheet {
+) -> io::Result<Sheet> {
     let client = items::client_of(item);
     let request = items::request_of(item);
     let told = done.told;
     let lent = done.lent;
     let after = lent.table;
-    say_head(s, item);
-    say_request(row, client, request);
+    say_head(rt, s, item)?;
+    say_request(rt, row, client, request)?;
     if told.code != 0 {
-        return refused(s, e, request, told.code);
+        return refused(rt, s, e, request, told.code);
     }
-    let s = answered(s, e, client, request, octets::part(answer, 0, told.length));
-    say_after(after, client);
-    s
+    let s = answered(
+        rt,
+        s,
+        e,
+        client,
+        request,
+        octets::part(answer, 0, told.length),
+    )?;
+    say_after(rt, after, client)?;
+    Ok(s)
 }
 
 // A tick that answers a client.
-fn tick_answered(s: Sheet, e: Exercise, item: &[u8], done: Played, answer: &[u8]) -> Sheet {
+fn tick_answered(
+    rt: &impl Print,
+    s: Sheet,
+    e: Exercise,
+    item: &[u8],
+    done: Played,
+    answer: &[u8],
+) -> io::Result<Sheet> {
     let told = done.told;
     let lent = done.lent;
     let after = lent.table;
     let client = told.client;
-    say_head(s, item);
-    print::say(b"the controller's own clock, for ");
-    print::say_client(client);
-    print::say(b"\n");
-    let s = answered(s, e, client, b"", octets::part(answer, 0, told.length));
-    say_after(after, client);
-    s
+    say_head(rt, s, item)?;
+    print::say(rt, b"the controller's own clock, for ")?;
+    print::say_client(rt, client)?;
+    print::say(rt, b"\n")?;
+    let s = answered(rt, s, e, client, b"", octets::part(answer, 0, told.length))?;
+    say_after(rt, after, client)?;
+    Ok(s)
 }
 
 // A tick and what came of it.
-fn tick_step(mut s: Sheet, e: Exercise, item: &[u8], done: Played, answer: &[u8]) -> Sheet {
+fn tick_step(
+    rt: &impl Print,
+    mut s: Sheet,
+    e: Exercise,
+    item: &[u8],
+    done: Played,
+    answer: &[u8],
+) -> io::Result<Sheet> {
     let told = done.told;
     if told.code == 255 {
         s.silent = next(s.silent);
-        return s;
+        return Ok(s);
     }
     if told.code == 0 {
-        return tick_answered(s, e, item, done, answer);
+        return tick_answered(rt, s, e, item, done, answer);
     }
-    say_head(s, item);
-    print::say(b"the controller's own clock\n");
-    refused(s, e, b"", told.code)
+    say_head(rt, s, item)?;
+    print::say(rt, b"the controller's own clock\n")?;
+    refused(rt, s, e, b"", told.code)
 }
 
 // A call and what came of it.
 pub fn call_step(
+    rt: &impl Print,
     mut s: Sheet,
     e: Exercise,
     item: &[u8],
     row: [Connection; 8],
     done: Played,
     answer: &[u8],
-) -> Sheet {
+) -> io::Result<Sheet> {
     s.calls = next(s.calls);
     let kind = octets::byte_at(item, 0);
     match kind {
-        1 => request_step(s, e, item, row, done, answer),
-        2 => tick_step(s, e, item, done, answer),
+        1 => request_step(rt, s, e, item, row, done, answer),
+        2 => tick_step(rt, s, e, item, done, answer),
         _ => {
             s.queries = next(s.queries);
-            s
+            Ok(s)
         }
     }
 }
 
 // An item that lends something. A table that is lent knows nothing of the readings so far.
-pub fn lend_step(mut s: Sheet, item: &[u8]) -> Sheet {
+pub fn lend_step(rt: &impl Print, mut s: Sheet, item: &[u8]) -> io::Result<Sheet> {
     let kind = octets::byte_at(item, 0);
-    print::say(b"(The recording sets ");
+    print::say(rt, b"(The recording sets ")?;
     print::say_line(
+        rt,
         b"the controller's objects.)
 the table of connections: readings begin anew.)
 the area.)
 the lengths of what the controller is lent.)",
         std::num::wrapping_sub_u8(kind, 4),
-    );
-    print::say(b"\n\n");
+    )?;
+    print::say(rt, b"\n\n")?;
     if kind == 5 {
         let book = s.book;
         let book = marking::anew(book);
         s.book = book;
     }
-    s
+    Ok(s)
 }

@@ -1,5 +1,9 @@
 // Calls the server many times, with its row by value or lent, for measuring: tools/lent-cost runs it. Standard input's first byte says which call: r, t or q by value, R, T or Q lent. It prints how often it called, and whether a client has a record then.
+#![tactic(auto)]
+
 use protocol::{Connection, NextAction, SdoClientInfo};
+use std::io;
+use std::io::Read;
 
 // The buffers' lengths.
 const AREA: usize = 65536;
@@ -12,7 +16,7 @@ const ANSWER: usize = 1468;
 const CALLS: u64 = 200000;
 
 // The server between calls.
-#[derive(Drop)]
+#[derive(Clone, Copy)]
 struct Server {
     table: [Connection; 8],
 }
@@ -101,27 +105,24 @@ fn played(
     answer: &mut [u8; ANSWER],
 ) -> Server {
     let mut s = begun();
-    let mut left = CALLS;
-    while left > 0 {
+    for _ in 0..CALLS {
         s = turn(kind, s, area, image, answer);
-        left -= 1;
     }
     s
 }
 
-fn main() {
+fn main(rt: HostRuntime) -> io::Result<()> {
     let mut area = [0u8; AREA];
     let mut image = [0u8; IMAGE];
     let mut answer = [0u8; ANSWER];
     let mut kind = [0u8; 1];
-    let got = libc::read(libc::STDIN_FILENO, &mut kind);
+    rt.reader().read(&mut kind)?;
     let s = played(kind[0], &mut area, &mut image, &mut answer);
     let row = s.table;
     let c = row[0];
-    io::print_decimal(libc::STDOUT_FILENO, CALLS);
     if c.used {
-        io::write_all(libc::STDOUT_FILENO, b" calls, one client\n");
+        println!(rt; "{CALLS} calls, one client")
     } else {
-        io::write_all(libc::STDOUT_FILENO, b" calls, no client\n");
+        println!(rt; "{CALLS} calls, no client")
     }
 }

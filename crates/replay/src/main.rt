@@ -1,10 +1,13 @@
 // Plays a script of calls from standard input on the server and writes what they leave as a transcript: oracle/REPLAY.md has both formats.
+#![tactic(auto)]
+
 mod transcript;
 
 ghost use Rattle.std.specs.Prelude.{◌≤◌};
 
 use input::{INPUT, Window};
 use script::{ANSWER, IMAGE, LENT_AREA, Lent, Played};
+use std::io;
 
 // The output's buffer, and the most bytes that a call adds to the transcript.
 const OUTPUT: usize = 65536;
@@ -12,7 +15,7 @@ const OUTPUT: usize = 65536;
 const ROOM: usize = 1940;
 
 // How far a run is, what is lent, and how many bytes of the output buffer are not written yet.
-#[derive(Drop)]
+#[derive(Clone, Copy)]
 struct Run {
     window: Window,
     lent: Lent,
@@ -20,14 +23,13 @@ struct Run {
 }
 
 // Writes the output that waits. Where that fails, the run ends with nothing left to play.
-fn flushed(out: &[u8], run: Run) -> Run
+fn flushed(rt: &(impl Print + Eprint), out: &[u8], run: Run) -> Run
     ensures { result.out ≤ 65536 }
 {
     let mut window = run.window;
     let lent = run.lent;
-    if !io::write_all(libc::STDOUT_FILENO, octets::part(out, 0, run.out)) {
-        let text = b"replay: the transcript cannot be written\n";
-        io::write_all(libc::STDERR_FILENO, text);
+    if rt.write_all(octets::part(out, 0, run.out)).is_err() {
+        let _ = eprintln!(rt; "replay: the transcript cannot be written");
         window.start = window.end;
         window.going = false;
     }
@@ -71,6 +73,8 @@ fn put(
 
 // One turn: the output is written, or more is read, or an item is played. An unknown item ends the run.
 fn turn(
+    rt: &(impl Print + Eprint),
+    reader: &mut impl io::Read,
     input: &mut [u8; INPUT],
     area: &mut [u8; LENT_AREA],
     image: &mut [u8; IMAGE],
@@ -81,7 +85,7 @@ fn turn(
     ensures { result.out ≤ 65536 }
 {
     if OUTPUT - run.out < ROOM {
-        return flushed(out, run);
+        return flushed(rt, out, run);
     }
     let window = run.window;
     let lent = run.lent;
@@ -89,7 +93,7 @@ fn turn(
     let n = items::length_of(bytes);
     if bytes.len() < n {
         return Run {
-            window: input::refilled(input, window),
+            window: input::refilled(reader, input, window),
             lent: lent,
             out: run.out,
         };
@@ -106,8 +110,10 @@ fn turn(
     }
 }
 
-// Plays the input as far as it goes, and answers where it ended. A loop has to end: it counts its turns down from a number that no run uses up.
+// Plays the input as far as it goes, and answers where it ended. A loop has to end: it counts its turns up to a number that no run reaches.
 fn played(
+    rt: &(impl Print + Eprint),
+    reader: &mut impl io::Read,
     input: &mut [u8; INPUT],
     area: &mut [u8; LENT_AREA],
     image: &mut [u8; IMAGE],
@@ -118,34 +124,40 @@ fn played(
         lent: script::begun(),
         out: 0,
     };
-    let mut turns = u64::MAX;
-    while turns > 0 {
-        run = turn(input, area, image, out, run);
+    for _ in 0..u64::MAX {
+        run = turn(rt, reader, input, area, image, out, run);
         if !run.window.going {
             return run;
         }
-        turns -= 1;
     }
     run
 }
 
 // Writes the end of the transcript. What is not played then begins with an item that is cut short or unknown.
-fn end(out: &[u8; OUTPUT], ended: Run) {
-    let run = flushed(out, ended);
+fn end(rt: &(impl Print + Eprint), out: &[u8; OUTPUT], ended: Run) -> io::Result<()> {
+    let run = flushed(rt, out, ended);
     let w = run.window;
     if w.start < w.end {
-        io::write_all(libc::STDERR_FILENO, b"replay: item at byte ");
-        io::print_decimal(libc::STDERR_FILENO, w.at);
-        io::write_all(libc::STDERR_FILENO, b" is cut short or unknown\n");
+        let at = w.at;
+        eprintln!(rt; "replay: item at byte {at} is cut short or unknown")?;
     }
+    Ok(())
 }
 
 // The program: its buffers, the run, and its end.
-fn main() {
+fn main(rt: HostRuntime) -> io::Result<()> {
     let mut input = [0u8; INPUT];
     let mut area = [0u8; LENT_AREA];
     let mut image = [0u8; IMAGE];
     let mut out = [0u8; OUTPUT];
-    let run = played(&mut input, &mut area, &mut image, &mut out);
-    end(&out, run);
+    let mut reader = rt.reader();
+    let run = played(
+        &rt,
+        &mut reader,
+        &mut input,
+        &mut area,
+        &mut image,
+        &mut out,
+    );
+    end(&rt, &out, run)
 }

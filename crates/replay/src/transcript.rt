@@ -11,7 +11,7 @@ const PRIME: u64 = 65521;
 const BLOCK: usize = 4096;
 
 // The two sums of Adler-32.
-#[derive(Drop)]
+#[derive(Clone, Copy)]
 pub struct Sums {
     pub bytes: u64,
     pub sums: u64,
@@ -31,11 +31,9 @@ fn with_block(s: &[u8], from: usize, to: usize, before: Sums) -> Sums
 {
     let mut a = before.bytes;
     let mut b = before.sums;
-    let mut i = from;
-    while i < to {
-        a += wide(s[i]);
+    for byte in &s[from..to] {
+        a += wide(*byte);
         b += a;
-        i += 1;
     }
     Sums {
         bytes: a % PRIME,
@@ -59,7 +57,7 @@ pub fn adler(s: &[u8]) -> u32 {
 fn is_untouched(answer: &[u8], from: usize) -> bool {
     let fresh = [script::FILL; ANSWER];
     let past = octets::rest(answer, from);
-    check::same(past, octets::part(&fresh, 0, past.len()))
+    past == octets::part(&fresh, 0, past.len())
 }
 
 // An answer's client, its length and its bytes, after its code.
