@@ -1,4 +1,6 @@
-// The three calls of the server for C: numbers and lent bytes in and out, the table as the 320 bytes of its records.
+// The three calls of the server as C makes them: numbers and lent bytes in and out, the table as the 320 bytes of its records. Crate `export_c` exports them.
+#![tactic(auto)]
+
 ghost use Rattle.std.specs.Prelude.{◌≡◌, true, ◌≤◌, length};
 ghost use Rattle.picks.specs.Pick.{every};
 ghost use Rattle.octets.specs.Octets.{splice};
@@ -32,9 +34,9 @@ fn answered<'a>(
     answer: &mut [u8],
 ) -> SdoAnswer
     requires { ANSWER_MIN ≤ length answer.old }
-    ensures fact_1 { result ≡ answers_to (record { client = client; size = length (frame (told_reply r (share_of area.now s.own.area) image.now)) }) }
-    ensures fact_2 { t.new ≡ table_bytes (settled_in s free next (table_of t.old)) }
-    ensures fact_3 { answer.new ≡ splice 0 (frame (told_reply r (share_of area.now s.own.area) image.now)) answer.old }
+    ensures returned { result ≡ answers_to (record { client = client; size = length (frame (told_reply r (share_of area.now s.own.area) image.now)) }) }
+    ensures table_left { t.new ≡ table_bytes (settled_in s free next (table_of t.old)) }
+    ensures answer_left { answer.new ≡ splice 0 (frame (told_reply r (share_of area.now s.own.area) image.now)) answer.old }
 {
     let own = s.own;
     let w = server::put_answer(r, area, own.area, image, answer);
@@ -132,8 +134,7 @@ fn give_back(table: &mut [u8], t: &[u8; 320])
 }
 
 // A request from a client.
-#[unsafe(no_mangle)]
-pub extern "C" fn sdo_handle_request(
+pub fn sdo_handle_request(
     table: &mut [u8],
     area: &mut [u8],
     image: &mut [u8],
@@ -199,8 +200,7 @@ fn tick<'a>(
 }
 
 // A tick of the clock.
-#[unsafe(no_mangle)]
-pub extern "C" fn sdo_tick<'a>(
+pub fn sdo_tick<'a>(
     table: &mut [u8],
     area: &'a [u8],
     image: &'a [u8],
@@ -219,8 +219,7 @@ pub extern "C" fn sdo_tick<'a>(
 }
 
 // The earliest deadline.
-#[unsafe(no_mangle)]
-pub extern "C" fn sdo_next_action_time(table: &[u8]) -> SdoDeadline
+pub fn sdo_next_action_time(table: &[u8]) -> SdoDeadline
     ensures { result ≡ query_bytes table.now }
 {
     if table.len() != 320 {
