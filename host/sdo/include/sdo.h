@@ -1,5 +1,5 @@
 /* The proved SDO server: three calls on lent bytes, in an archive made by
- * `rt staticlib export`. Link: cc program.c libexport.a
+ * `tools/build export_c`. Link: cc program.c libexport.a
  *
  * The caller keeps the table and the area, and lends them with the dictionary
  * image and an answer buffer to each call. Bytes that are lent to one call must
