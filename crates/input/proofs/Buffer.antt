@@ -1,21 +1,8 @@
 -- Bytes in the input's buffer: a move to the front, and a read behind it.
-use Rattle.std.proofs.Common.{◌≡◌, ℕ, suc, ◌+◌, ◌-◌, ◌<◌, ◌≤◌, ltb, List, [], ◌∷◌, ◌++◌, length, get_or, take, drop, set, sym, ap, ◌∙◌, arith, length-append, length-drop, take-append-drop, length-take, length-take-le, get_or-drop, drop-cons, take-suc, take_at, get_or-append-add}
-use lib.Seq.{append_snoc, set_at}
+use Rattle.std.proofs.Common.{◌≡◌, ℕ, ◌+◌, ◌-◌, ◌≤◌, ltb, List, ◌++◌, length, take, drop, sym, ap, ◌∙◌, arith, length-append, length-drop, take-append-drop, length-take, length-take-le, take_at}
 use Rattle.octets.proofs.Splice.{take_clamped}
 use Rattle.input.specs.declared.Window.{Window}
 use Rattle.input.specs.Runs.{unplayed_of, Read, refilled_bytes, refilled_window}
-
--- a move to the front: one byte more
-pub move_more : (s i : ℕ) (xs : List ℕ) → s + i < length xs → set (take i (drop s xs) ++ drop i xs) i (get_or (take i (drop s xs) ++ drop i xs) (s + i) 0) ≡ take (suc i) (drop s xs) ++ drop (suc i) xs
-move_more s i xs h =
-    let p = take i (drop s xs) in
-    let long : i < length (drop s xs) = rw length-drop (omega arith) in
-    let lp : length p ≡ i = length-take-le i (drop s xs) (omega (arith, long)) in
-    let place : s + i ≡ length p + s = omega (arith, lp) in
-    let swap : i + s ≡ s + i = omega arith in
-    let v : get_or (p ++ drop i xs) (s + i) 0 ≡ get_or (drop s xs) i 0 = rw place (get_or-append-add p (drop i xs) s 0) ∙ get_or-drop i xs s 0 ∙ rw swap (sym (get_or-drop s xs i 0)) in
-    let t : take (suc i) (drop s xs) ≡ p ++ (get_or (drop s xs) i 0 ∷ []) = take-suc (drop s xs) i 0 long in
-    rw (v, t, drop-cons xs i 0 (omega arith), append_snoc p (get_or (drop s xs) i 0) (drop (suc i) xs)) (set_at p (get_or xs i 0) (drop (suc i) xs) (get_or (drop s xs) i 0) i lp)
 
 -- what is moved to the front fits, and the read has its place behind it
 pub unplayed_fits : (input : List ℕ) (w : Window) → length (unplayed_of input w) ≤ length input - w.start

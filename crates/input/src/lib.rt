@@ -31,31 +31,28 @@ pub fn begun() -> Window
     }
 }
 
-// How many bytes there are from a place to another; none where that is before it.
-fn between(start: usize, end: usize) -> usize
-    ensures { result ≡ end - start }
-{
-    if end <= start { 0 } else { end - start }
-}
-
 // What is not played yet, as far as it is read.
+#[tactic(auto, unfolding(crate::specs::Runs::unplayed_of))]
 pub fn unplayed(input: &[u8; INPUT], w: Window) -> &[u8]
     ensures { result.now ≡ unplayed_of input.now w }
 {
-    octets::part(input, w.start, between(w.start, w.end))
+    octets::part(input, w.start, w.end.saturating_sub(w.start))
 }
 
 // Behind an item of n bytes; one that is not known ends the run where it begins.
-pub fn passed(mut w: Window, n: usize, known: bool) -> Window
+#[tactic(auto, unfolding(crate::specs::Runs::behind, picks::specs::Pick::pick))]
+pub fn passed(w: Window, n: usize, known: bool) -> Window
     ensures { result ≡ behind w n known }
 {
     if known {
-        w.start = std::num::wrapping_add_usize(w.start, n);
-        w.at = std::num::wrapping_add_u64(w.at, n as u64);
-        return w;
+        Window {
+            start: w.start.wrapping_add(n),
+            at: w.at.wrapping_add(n as u64),
+            ..w
+        }
+    } else {
+        Window { going: false, ..w }
     }
-    w.going = false;
-    w
 }
 
 // Reads once into the buffer from n on, and answers how many bytes came: none at the end of the input, or where it cannot be read.
@@ -65,10 +62,7 @@ fn read_at<R: io::Read>(reader: &mut R, buffer: &mut [u8], n: usize) -> usize
     ensures kept { take n buffer.new ≡ take n buffer.old }
     ensures got { Consumes (R.remaining reader.old) (R.remaining reader.new) (take result (drop n buffer.new)) }
 {
-    match reader.read(&mut buffer[n..]) {
-        Ok(got) => got,
-        Err(_) => 0,
-    }
+    reader.read(&mut buffer[n..]).unwrap_or(0)
 }
 
 // Moves n bytes from a place to the front of the input buffer.
@@ -76,22 +70,21 @@ fn move_to_front(input: &mut [u8], start: usize, n: usize)
     requires { n ≤ length input.old - start }
     ensures { input.new ≡ take n (drop start input.old) ++ drop n input.old }
 {
-    let mut i = 0;
-    while i < n {
-        input[i] = input[start + i];
-        i += 1;
-    }
+    let start = start.min(input.len());
+    input.copy_within(start..start + n, 0);
 }
 
 // Moves what is not played yet to the front of the input buffer and reads once behind it. The run goes on if the read got anything.
-pub fn refilled<R: io::Read>(reader: &mut R, input: &mut [u8; INPUT], mut w: Window) -> Window
+pub fn refilled<R: io::Read>(reader: &mut R, input: &mut [u8; INPUT], w: Window) -> Window
     ensures { (f : Read) × (input.new ≡ refilled_bytes f input.old w) × (result ≡ refilled_window f input.old w) × (Consumes (R.remaining reader.old) (R.remaining reader.new) f.got) }
 {
     let n = unplayed(input, w).len();
     move_to_front(input, w.start, n);
     let got = read_at(reader, input, n);
-    w.start = 0;
-    w.end = n + got;
-    w.going = 0 < got;
-    w
+    Window {
+        start: 0,
+        end: n + got,
+        going: 0 < got,
+        ..w
+    }
 }

@@ -5,15 +5,52 @@ ghost use Rattle.std.specs.Prelude.{◌≡◌, ◌≤◌};
 ghost use Rattle.picks.specs.Pick.{pick};
 ghost use Rattle.format.specs.Format.{number_at};
 ghost use Rattle.items.specs.Items.{client_in, clock_in, request_in, is_image, length_of};
+ghost use Rattle.items.specs.Kinds.{item_of};
 
 use protocol::SdoClientInfo;
+
+// What an item is: a call, or something that is lent.
+#[derive(Clone, Copy, Debug, PartialEq, Eq)]
+pub enum Item {
+    Request,
+    Tick,
+    Query,
+    Image,
+    Table,
+    Area,
+    Lengths,
+}
+
+// A number that no item has.
+#[derive(Clone, Copy, Debug, PartialEq, Eq)]
+pub struct UnknownItem(pub u8);
+
+impl TryFrom<u8> for Item {
+    type Error = UnknownItem;
+
+    ghost try_from_gives = { λ number result. result ≡ item_of number };
+
+    #[tactic(auto, unfolding(crate::specs::Kinds::item_of, crate::specs::Items::by_kind, picks::specs::Pick::pick))]
+    fn try_from(number: u8) -> Result<Self, UnknownItem> {
+        match number {
+            1 => Ok(Item::Request),
+            2 => Ok(Item::Tick),
+            3 => Ok(Item::Query),
+            4 => Ok(Item::Image),
+            5 => Ok(Item::Table),
+            6 => Ok(Item::Area),
+            7 => Ok(Item::Lengths),
+            _ => Err(UnknownItem(number)),
+        }
+    }
+}
 
 // The image's length in item 4. One above its limit counts as 0: no image is waited for, and the item is unknown.
 fn image_length(item: &[u8]) -> usize
     ensures value { result ≡ pick (is_image item.now) (number_at 4 1 item.now) 0 }
     ensures upper_bound { result ≤ 131072 }
 {
-    let n = octets::u32_at(item, 1);
+    let n: u32 = octets::number_at(item, 1);
     if n <= 131072 {
         return n as usize;
     }
@@ -24,16 +61,15 @@ fn image_length(item: &[u8]) -> usize
 pub fn length_of(s: &[u8]) -> usize
     ensures { result ≡ length_of s.now }
 {
-    let kind = octets::byte_at(s, 0);
-    match kind {
-        1 => 19 + (octets::u16_at(s, 17) as usize),
-        2 => 9,
-        3 => 1,
-        4 => 5 + image_length(s),
-        5 => 321,
-        6 => 2,
-        7 => 10,
-        _ => 1,
+    match Item::try_from(octets::byte_at(s, 0)) {
+        Ok(Item::Request) => 19 + (octets::number_at::<u16, _>(s, 17) as usize),
+        Ok(Item::Tick) => 9,
+        Ok(Item::Query) => 1,
+        Ok(Item::Image) => 5 + image_length(s),
+        Ok(Item::Table) => 321,
+        Ok(Item::Area) => 2,
+        Ok(Item::Lengths) => 10,
+        Err(UnknownItem(_)) => 1,
     }
 }
 
@@ -48,15 +84,15 @@ pub fn client_of(item: &[u8]) -> SdoClientInfo
 pub fn request_of(item: &[u8]) -> &[u8]
     ensures { result.now ≡ request_in item.now }
 {
-    octets::part(item, 19, octets::u16_at(item, 17) as usize)
+    octets::part(item, 19, octets::number_at::<u16, _>(item, 17) as usize)
 }
 
 // The clock of item 1 or 2.
 pub fn clock_of(item: &[u8]) -> u64
     ensures { result ≡ clock_in item.now }
 {
-    if octets::byte_at(item, 0) == 1 {
-        return octets::u64_at(item, 9);
+    match Item::try_from(octets::byte_at(item, 0)) {
+        Ok(Item::Request) => octets::number_at(item, 9),
+        _ => octets::number_at(item, 1),
     }
-    octets::u64_at(item, 1)
 }

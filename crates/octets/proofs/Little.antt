@@ -1,14 +1,16 @@
 -- Laws of little-endian numbers, over the width.
-use Prim.Native.Nat.{ℕ, zero, suc, ◌+◌, ◌*◌, ◌/◌, ◌%◌, ◌^◌, ◌<◌}
+use Prim.Native.Nat.{ℕ, zero, suc, ◌+◌, ◌*◌, ◌/◌, ◌%◌, ◌^◌, ◌<◌, ◌≤◌}
 use native.Mathlib.Omega.{arith}
-use native.Mathlib.Nat.{pow-suc, pow-succ', mul_assoc, zero-add, suc-add, mul-pos, mod-one, mod-eq_of_lt}
+use native.Mathlib.Nat.{pow-suc, pow-succ', mul_assoc, zero-add, suc-add, mul-pos, div-div-eq-div-mul, div-one, mod-one, mod-eq_of_lt}
 use mathlib.Core.Path.{◌≡◌, refl, sym, ap, ◌∙◌}
 use mathlib.Core.List.{List, [], ◌∷◌, ◌++◌}
-use lib.ListN.{length, take, drop, get_or}
+use lib.ListN.{length, take, drop, get_or, replicate}
 use lib.Seq.{take-nil}
 use lib.Dec.{lit<}
 use lib.Arith.{mod-mul}
-use Rattle.octets.specs.Octets.{le, le_bytes, AllBytes}
+use Rattle.std.specs.Int.{byte_worth, bytes_low_first, sum_through}
+use Rattle.octets.specs.Octets.{le, le_bytes, splice, AllBytes}
+use Rattle.octets.proofs.Splice.{splice_nil, splice_none, splice_cons}
 
 -- one byte more below two numbers is one more below the first
 carry : (x p n r : ℕ) → x + 256 * (p + 256 ^ n * r) ≡ x + 256 * p + 256 ^ suc n * r
@@ -74,3 +76,38 @@ pub length_le_bytes : (n v : ℕ) → length (le_bytes n v) ≡ n
 unfolding le_bytes
 length_le_bytes zero v = refl
 length_le_bytes (suc n) v = ap suc (length_le_bytes n (v / 256))
+
+-- the standard library's sum of bytes is their number
+pub sum_bytes : (n : ℕ) (xs : List ℕ) → sum_through (λ i. byte_worth i (get_or xs i 0)) n ≡ le (take (suc n) xs)
+sum_bytes zero xs = le_byte 0 xs
+sum_bytes (suc n) xs =
+    let e : suc (suc n) ≡ suc n + 1 = omega arith in
+    rw (e, le_split (suc n) 1 xs, sum_bytes n xs, le_byte (suc n) xs) (omega arith)
+
+-- and its bytes of a number, from byte i on, are those of the number without the bytes before
+bytes_from : (i n v : ℕ) → bytes_low_first i n v ≡ le_bytes n (v / 256 ^ i)
+unfolding le_bytes
+bytes_from i zero v = refl
+bytes_from zero (suc n) v = rw (bytes_from 1 n v, div-one v) refl
+bytes_from (suc i) (suc n) v = rw (bytes_from (suc (suc i)) n v, div-div-eq-div-mul v (256 ^ suc i) 256, pow-suc 256 (suc i)) refl
+
+pub low_bytes : (n v : ℕ) → bytes_low_first 0 n v ≡ le_bytes n v
+low_bytes n v = bytes_from 0 n v ∙ rw (div-one v)
+
+-- zeros are the number 0
+le_zeros : (n : ℕ) → le (replicate n 0) ≡ 0
+unfolding le
+le_zeros zero = refl
+le_zeros (suc n) = rw (le_zeros n) refl
+
+-- bytes that are laid over n zeros
+pub laid : (n : ℕ) (xs : List ℕ) → n ≤ length xs → take n xs ≡ splice 0 xs (replicate n 0)
+laid zero xs h = sym (splice_nil 0 xs)
+laid (suc n) [] h = absurd (omega arith)
+laid (suc n) (x ∷ xs) h = rw (splice_cons x 0 xs (replicate n 0)) (ap (λ (l : List ℕ). x ∷ l) (laid n xs (omega arith)))
+
+pub le_laid : (n : ℕ) (xs : List ℕ) → le (splice 0 xs (replicate n 0)) ≡ le (take n xs)
+unfolding le
+le_laid zero xs = rw (splice_nil 0 xs)
+le_laid (suc n) [] = rw (splice_none 0 (replicate (suc n) 0)) (le_zeros (suc n))
+le_laid (suc n) (x ∷ xs) = rw (splice_cons x 0 xs (replicate n 0), le_laid n xs)

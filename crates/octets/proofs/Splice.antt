@@ -1,7 +1,7 @@
 -- Laws of `splice`, the store that keeps the length. The first four compute it, and the others follow from those.
 use Prim.Native.Nat.{ℕ, zero, suc, ◌+◌, ◌-◌, ◌≤◌, ◌<◌, min}
 use native.Mathlib.Omega.{arith}
-use native.Mathlib.Nat.{add-zero, zero-add, suc-add, sub-zero, suc-sub-suc, min_comm}
+use native.Mathlib.Nat.{add-zero, zero-add, suc-add, sub-zero, suc-sub-suc, suc-min-suc, min_comm}
 use mathlib.Core.Path.{◌≡◌, refl, sym, ap, ◌∙◌}
 use mathlib.Core.List.{List, [], ◌∷◌, ◌++◌, append_assoc, append-nil}
 use lib.ListN.{length, take, drop, get_or, set, length-append, length-take, length-drop, take-append-drop}
@@ -66,12 +66,17 @@ splice_fits at ys xs h = take_all (length xs) _ (simp (length-append, length-tak
 pub take_clamped : (n : ℕ) (xs : List ℕ) → take (min n (length xs)) xs ≡ take n xs
 take_clamped n xs = rw (take-append-drop n xs, length-take n xs) at (take-append_seam (take n xs) (drop n xs))
 
--- a store of as much as fits, as a cut and a paste
-pub splice_paste : (at n : ℕ) (ys xs : List ℕ) → at ≤ length xs → n ≡ min (length ys) (length xs - at) → take at xs ++ take n ys ++ drop (at + n) xs ≡ splice at ys xs
-splice_paste at n ys xs h e =
-    let l : length (take n ys) ≡ n = length-take-le n ys (omega arith) in
+-- a store of as much as fits
+pub splice_cut : (at n : ℕ) (ys xs : List ℕ) → n ≡ min (length ys) (length xs - at) → splice at (take n ys) xs ≡ splice at ys xs
+splice_cut at n ys xs e =
     let f : take n ys ≡ take (length xs - at) ys = rw (e, min_comm (length ys) (length xs - at)) (take_clamped (length xs - at) ys) in
-    rw (← splice_clamped at ys xs, ← f, splice_fits at (take n ys) xs (rw l (omega arith)), l)
+    rw f (splice_clamped at ys xs)
+
+-- a store behind the end is one at the end
+pub splice_min : (at : ℕ) (ys xs : List ℕ) → splice (min at (length xs)) ys xs ≡ splice at ys xs
+splice_min at ys [] = rw (splice_nil at ys, splice_nil (min at 0) ys)
+splice_min zero ys (x ∷ xs) = let e : min 0 (length (x ∷ xs)) ≡ 0 = omega arith in rw e refl
+splice_min (suc at) ys (x ∷ xs) = rw (suc-min-suc at (length xs), splice_suc (min at (length xs)) x ys xs, splice_suc at x ys xs, splice_min at ys xs)
 
 -- the front of a list with a store is the front with the same store
 pub take_splice : (n at : ℕ) (ys xs : List ℕ) → take n (splice at ys xs) ≡ splice at ys (take n xs)

@@ -1,89 +1,130 @@
 // Bytes in a lent slice: reads, stores, parts and copies that ask nothing of the caller. A byte past the end reads as 0, and what would be stored past the end is dropped.
 #![tactic(auto)]
 
-ghost use Rattle.std.specs.Prelude.{◌≡◌, ◌+◌, ◌-◌, ◌≤◌, min, ◌++◌, length, get_or, take, drop, set};
+ghost use Rattle.std.specs.Prelude.{◌≡◌, ◌≤◌, ℕ, get_or, take, drop, set, replicate};
+ghost use Rattle.std.proofs.Common.{rules};
 ghost use Rattle.octets.specs.Octets.{le, le_bytes, splice};
 
-// The lesser of two numbers.
-fn least(a: usize, b: usize) -> usize
-    ensures { result ≡ min a b }
-{
-    if a <= b { a } else { b }
+// A number that stands in N bytes, the lowest first.
+pub trait LittleEndian<const N: usize> {
+    // The number that is written.
+    ghost value: { Self → ℕ };
+
+    fn from_bytes(bytes: [u8; N]) -> Self
+        ensures { value result ≡ le bytes.entry };
+
+    fn to_bytes(self) -> [u8; N]
+        ensures { result ≡ le_bytes N (value self) };
+
+    // No number has more than 16 bytes.
+    ghost narrow: { N ≤ 16 };
+}
+
+impl LittleEndian<2> for u16 {
+    ghost value = { λ n. n };
+
+    ghost narrow = { Prim.search rules };
+
+    fn from_bytes(bytes: [u8; 2]) -> u16
+        ensures { result ≡ le bytes }
+    {
+        u16::from_le_bytes(bytes)
+    }
+
+    fn to_bytes(self) -> [u8; 2]
+        ensures { result ≡ le_bytes 2 self }
+    {
+        u16::to_le_bytes(self)
+    }
+}
+
+impl LittleEndian<4> for u32 {
+    ghost value = { λ n. n };
+
+    ghost narrow = { Prim.search rules };
+
+    fn from_bytes(bytes: [u8; 4]) -> u32
+        ensures { result ≡ le bytes }
+    {
+        u32::from_le_bytes(bytes)
+    }
+
+    fn to_bytes(self) -> [u8; 4]
+        ensures { result ≡ le_bytes 4 self }
+    {
+        u32::to_le_bytes(self)
+    }
+}
+
+impl LittleEndian<8> for u64 {
+    ghost value = { λ n. n };
+
+    ghost narrow = { Prim.search rules };
+
+    fn from_bytes(bytes: [u8; 8]) -> u64
+        ensures { result ≡ le bytes }
+    {
+        u64::from_le_bytes(bytes)
+    }
+
+    fn to_bytes(self) -> [u8; 8]
+        ensures { result ≡ le_bytes 8 self }
+    {
+        u64::to_le_bytes(self)
+    }
 }
 
 // The byte at a place.
 pub fn byte_at(s: &[u8], at: usize) -> u8
     ensures { result ≡ get_or s.now at 0 }
 {
-    if at < s.len() { s[at] } else { 0 }
+    s.get(at).copied().unwrap_or(0)
 }
 
 // The part of len bytes from start on, as far as the slice goes.
 pub fn part(s: &[u8], start: usize, len: usize) -> &[u8]
     ensures { result.now ≡ take len (drop start s.now) }
 {
-    if s.len() <= start {
-        return &s[..0];
-    }
-    let n = least(len, s.len() - start);
-    &s[start..start + n]
+    let from = rest(s, start);
+    &from[..len.min(from.len())]
 }
 
 // The part from start to the end.
 pub fn rest(s: &[u8], start: usize) -> &[u8]
     ensures { result.now ≡ drop start s.now }
 {
-    part(s, start, s.len())
+    &s[start.min(s.len())..]
 }
 
-// The u16 at a place: each width is two halves of the width below.
-pub fn u16_at(s: &[u8], at: usize) -> u16
-    ensures { result ≡ le (take 2 (drop at s.now)) }
+// The N bytes at a place.
+pub fn bytes_at<const N: usize>(s: &[u8], at: usize) -> [u8; N]
+    ensures { result ≡ splice 0 (drop at s.now) (replicate N 0) }
 {
-    let low = byte_at(s, at);
-    let high = byte_at(rest(s, at), 1);
-    (low as u16) + 256 * (high as u16)
-}
-
-// The u32 at a place.
-pub fn u32_at(s: &[u8], at: usize) -> u32
-    ensures { result ≡ le (take 4 (drop at s.now)) }
-{
-    let low = u16_at(s, at);
-    let high = u16_at(rest(s, at), 2);
-    (low as u32) + 65536 * (high as u32)
-}
-
-// The u64 at a place.
-pub fn u64_at(s: &[u8], at: usize) -> u64
-    ensures { result ≡ le (take 8 (drop at s.now)) }
-{
-    let low = u32_at(s, at);
-    let high = u32_at(rest(s, at), 4);
-    (low as u64) + 4294967296 * (high as u64)
-}
-
-// The first n bytes of src go to dst from at on.
-fn copy_n(dst: &mut [u8], at: usize, src: &[u8], n: usize)
-    requires { (n ≤ length src.now) × (at + n ≤ length dst.old) }
-    ensures { dst.new ≡ take at dst.old ++ take n src.now ++ drop (at + n) dst.old }
-{
-    let mut i = 0;
-    while i < n {
-        dst[at + i] = src[i];
-        i += 1;
+    let from = rest(s, at);
+    match from.first_chunk() {
+        Some(bytes) => *bytes,
+        None => {
+            let mut bytes = [0; N];
+            copy_at(&mut bytes, 0, from);
+            bytes
+        }
     }
+}
+
+// The number at a place.
+pub fn number_at<T: LittleEndian<N>, const N: usize>(s: &[u8], at: usize) -> T
+    ensures { T.value result ≡ le (take N (drop at s.now)) }
+{
+    T::from_bytes(bytes_at(s, at))
 }
 
 // src goes to dst from at on, as far as dst goes; every byte outside stays.
 pub fn copy_at(dst: &mut [u8], at: usize, src: &[u8])
     ensures { dst.new ≡ splice at src.now dst.old }
 {
-    if dst.len() <= at {
-        return;
-    }
-    let n = least(src.len(), dst.len() - at);
-    copy_n(dst, at, src, n);
+    let start = at.min(dst.len());
+    let n = src.len().min(dst.len() - start);
+    dst[start..start + n].copy_from_slice(&src[..n]);
 }
 
 // A byte is stored at a place.
@@ -95,40 +136,9 @@ pub fn store_u8(dst: &mut [u8], at: usize, v: u8)
     }
 }
 
-// A u16 is stored at a place.
-pub fn store_u16(dst: &mut [u8], at: usize, v: u16)
-    ensures { dst.new ≡ splice at (le_bytes 2 v) dst.old }
+// A number is stored at a place.
+pub fn store<T: LittleEndian<N>, const N: usize>(dst: &mut [u8], at: usize, v: T)
+    ensures { dst.new ≡ splice at (le_bytes N (T.value v)) dst.old }
 {
-    let bytes = [(v % 256) as u8, (v / 256 % 256) as u8];
-    copy_at(dst, at, &bytes);
-}
-
-// A u32 is stored at a place.
-pub fn store_u32(dst: &mut [u8], at: usize, v: u32)
-    ensures { dst.new ≡ splice at (le_bytes 4 v) dst.old }
-{
-    let bytes = [
-        (v % 256) as u8,
-        (v / 256 % 256) as u8,
-        (v / 65536 % 256) as u8,
-        (v / 16777216 % 256) as u8,
-    ];
-    copy_at(dst, at, &bytes);
-}
-
-// A u64 is stored at a place.
-pub fn store_u64(dst: &mut [u8], at: usize, v: u64)
-    ensures { dst.new ≡ splice at (le_bytes 8 v) dst.old }
-{
-    let bytes = [
-        (v % 256) as u8,
-        (v / 256 % 256) as u8,
-        (v / 65536 % 256) as u8,
-        (v / 16777216 % 256) as u8,
-        (v / 4294967296 % 256) as u8,
-        (v / 1099511627776 % 256) as u8,
-        (v / 281474976710656 % 256) as u8,
-        (v / 72057594037927936 % 256) as u8,
-    ];
-    copy_at(dst, at, &bytes);
+    copy_at(dst, at, &v.to_bytes());
 }

@@ -5,4 +5,4 @@ use mathlib.Core.Path.{ap, ◌∙◌}
 use Rattle.clients.proofs.client_of.Goals as goal
 
 pub returns : goal.returns
-returns c = c.client_in.ensures ∙ ap client_of c.copy_at.ensures ∙ client_agrees _ _ (padded_agrees 8 c.args.s.now)
+returns c = c.client_in.ensures ∙ ap client_of c.bytes_at.ensures ∙ client_agrees _ _ (padded_agrees 8 c.args.s.now)
