@@ -1,5 +1,5 @@
 -- Document 01, 'Bench card': the rows marked P as one table, and one test of a row.
-use Rattle.std.specs.Prelude.{ℕ, zero, suc, ◌+◌, ◌*◌, ◌/◌, ◌%◌, Bool, true, false, ◌&&◌, List, [], ◌∷◌, ◌++◌, length, get_or, take, drop, replicate, eqb}
+use Rattle.std.specs.Prelude.{ℕ, zero, suc, ◌+◌, ◌*◌, ◌/◌, ◌%◌, Bool, true, false, ◌&&◌, List, [], ◌∷◌, ◌++◌, length, get_or, take, drop, replicate, eqb, Some}
 use Rattle.picks.specs.Pick.{pick, count}
 use Rattle.octets.specs.Octets.{le_bytes}
 use Rattle.protocol.specs.declared.ReceiveConnState.TheVariants as R
@@ -7,7 +7,6 @@ use Rattle.protocol.specs.declared.SendConnState.TheVariants as S
 use Rattle.protocol.specs.declared.SequenceLayerHeader.{SequenceLayerHeader}
 use Rattle.protocol.specs.declared.SdoClientInfo.{SdoClientInfo}
 use Rattle.protocol.specs.declared.SdoClientInfo.TheVariants.{Asnd}
-use Rattle.protocol.specs.declared.Deadline.TheVariants.{At}
 use Rattle.protocol.specs.declared.SdoServerState.{SdoServerState}
 use Rattle.protocol.specs.declared.SdoServerState.TheVariants.{Closed, Opening, Established, SegmentedDownload, SegmentedUpload}
 use Rattle.protocol.specs.declared.Connection.{Connection}
@@ -162,10 +161,10 @@ abbrev pub write : ℕ → List ℕ → List ℕ
 write flags bytes = 0x06 ∷ 0x0A ∷ 0 ∷ 0 ∷ 0 ∷ 7 ∷ flags ∷ 1 ∷ le_bytes 2 (length bytes) ++ 0 ∷ 0 ∷ bytes
 
 unfoldable pub downloading : Bench
-downloading = in_state (object (replicate 10 0)) 1 1 (SegmentedDownload (record { transaction = 7; total = 10; offset = 6; index = 0x2001; sub = 1; deadline = At 5; retries = 0; stored = false })) (1 ∷ 2 ∷ 3 ∷ 4 ∷ 5 ∷ 6 ∷ [])
+downloading = in_state (object (replicate 10 0)) 1 1 (SegmentedDownload (record { transaction = 7; total = 10; offset = 6; index = 0x2001; sub = 1; deadline = Some 5; retries = 0; stored = false })) (1 ∷ 2 ∷ 3 ∷ 4 ∷ 5 ∷ 6 ∷ [])
 
 unfoldable pub uploading : Bench
-uploading = in_state no_object 5 7 (SegmentedUpload (record { transaction = 9; total = 2000; offset = 1452; index = 0x2001; sub = 1; deadline = At 1000000; retries = 0; stored = true })) []
+uploading = in_state no_object 5 7 (SegmentedUpload (record { transaction = 9; total = 2000; offset = 1452; index = 0x2001; sub = 1; deadline = Some 1000000; retries = 0; stored = true })) []
 
 unfoldable pub rows : List Row
 rows =

@@ -12,8 +12,7 @@ use Rattle.octets.specs.Octets.{le, le_bytes}
 use Rattle.octets.proofs.Little.{le_le_bytes, pow_pos}
 use Rattle.protocol.specs.declared.SdoClientInfo.{SdoClientInfo}
 use Rattle.protocol.specs.declared.SdoClientInfo.TheVariants.{Asnd, Udp}
-use Rattle.protocol.specs.declared.Deadline.{Deadline}
-use Rattle.protocol.specs.declared.Deadline.TheVariants.{NoDeadline, At}
+use Rattle.std.specs.Prelude.{Option, None, Some}
 use Rattle.protocol.specs.declared.SdoTransferState.{SdoTransferState}
 use Rattle.protocol.specs.declared.SdoServerState.{SdoServerState}
 use Rattle.protocol.specs.declared.SdoServerState.TheVariants.{Closed, Opening, Established, SegmentedDownload, SegmentedUpload}
@@ -42,10 +41,10 @@ client_needed (Udp a p) ys e =
     let o : le (le_bytes 2 p) ≡ p = cc in
     (rw (← q) (big_below 4 a r), le_below 2 p p o)
 
-deadline_needed : (d : Deadline) (n : ℕ) → n ≡ le (le_bytes 8 (deadline_time d)) → pick (eqb (deadline_flag d) 1) (At n) NoDeadline ≡ d → FitsDeadline d
+deadline_needed : (d : Option ℕ) (n : ℕ) → n ≡ le (le_bytes 8 (deadline_time d)) → pick (eqb (deadline_flag d) 1) (Some n) None ≡ d → FitsDeadline d
 unfolding pick
-deadline_needed NoDeadline n f e = tt
-deadline_needed (At m) n f e = let p : n ≡ m = cc in le_below 8 m m (sym f ∙ p)
+deadline_needed None n f e = tt
+deadline_needed (Some m) n f e = let p : n ≡ m = cc in le_below 8 m m (sym f ∙ p)
 
 module _ (p0 p1 p2 p3 p4 p5 p6 p7 p8 p9 p10 p11 : ℕ) where
   abbrev first : ℕ → List ℕ → List ℕ

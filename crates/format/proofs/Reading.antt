@@ -119,19 +119,6 @@ padded_agrees n xs i l =
 pub byte_in : (at k : ℕ) (s : List ℕ) → k < 40 → byte_at k (take 40 (drop at s)) ≡ byte_at (at + k) s
 byte_in at k s h = get_or-take 40 (drop at s) k 0 h ∙ get_or-drop at s k 0
 
--- numbers with the first byte the most significant, two bytes by two
-pub big_pair : (at : ℕ) (s : List ℕ) → 256 * byte_at 0 (drop at s) + byte_at 1 (drop at s) ≡ big 2 (drop at s)
-unfolding big
-big_pair at s = omega arith
-
-pub mac_by_pairs : (s : List ℕ) → 4294967296 * big 2 (drop 2 s) + 65536 * big 2 (drop 4 s) + big 2 (drop 6 s) ≡ big 6 (drop 2 s)
-unfolding big
-mac_by_pairs s = simp get_or-drop (omega arith)
-
-pub ip_by_pairs : (s : List ℕ) → 65536 * big 2 (drop 1 s) + big 2 (drop 3 s) ≡ big 4 (drop 1 s)
-unfolding big
-ip_by_pairs s = simp get_or-drop (omega arith)
-
 -- a record's tests are those of its bytes
 pub record_test : (at : ℕ) (s : List ℕ) → is_record (take 40 (drop at s)) ≡ (ltb (byte_at at s) 2 && ltb (byte_at (at + 1) s) 2 && (ltb (byte_at (at + 12) s) 3 || (ltb (byte_at (at + 12) s) 5 && (ltb (byte_at (at + 25) s) 2 && ltb (byte_at (at + 38) s) 2))))
 unfolding is_record

@@ -15,8 +15,7 @@ use Rattle.octets.specs.Octets.{le_bytes}
 use Rattle.octets.proofs.Little.{le_le_bytes_below}
 use Rattle.protocol.specs.declared.SdoClientInfo.{SdoClientInfo}
 use Rattle.protocol.specs.declared.SdoClientInfo.TheVariants.{Asnd, Udp}
-use Rattle.protocol.specs.declared.Deadline.{Deadline}
-use Rattle.protocol.specs.declared.Deadline.TheVariants.{NoDeadline, At}
+use Rattle.std.specs.Prelude.{Option, None, Some}
 use Rattle.protocol.specs.declared.SdoTransferState.{SdoTransferState}
 use Rattle.protocol.specs.declared.SdoServerState.{SdoServerState}
 use Rattle.protocol.specs.declared.SdoServerState.TheVariants.{Closed, Opening, Established, SegmentedDownload, SegmentedUpload}
@@ -57,23 +56,23 @@ flag_back : (b : Bool) → eqb (flag b) 1 ≡ b
 flag_back false = refl
 flag_back true = refl
 
-deadline_back : (d : Deadline) (n : ℕ) → n ≡ deadline_time d → pick (eqb (deadline_flag d) 1) (At n) NoDeadline ≡ d
+deadline_back : (d : Option ℕ) (n : ℕ) → n ≡ deadline_time d → pick (eqb (deadline_flag d) 1) (Some n) None ≡ d
 unfolding pick
-deadline_back NoDeadline n e = refl
-deadline_back (At m) n e = ap At e
+deadline_back None n e = refl
+deadline_back (Some m) n e = ap Some e
 
-time_fits : (d : Deadline) → FitsDeadline d → deadline_time d < 256 ^ 8
-time_fits NoDeadline h = lit< tt
-time_fits (At n) h = h
+time_fits : (d : Option ℕ) → FitsDeadline d → deadline_time d < 256 ^ 8
+time_fits None h = lit< tt
+time_fits (Some n) h = h
 
 -- the tests of a record's flags and state
 flag_small : (b : Bool) → ltb (flag b) 2 ≡ true
 flag_small false = refl
 flag_small true = refl
 
-deadline_small : (d : Deadline) → ltb (deadline_flag d) 2 ≡ true
-deadline_small NoDeadline = refl
-deadline_small (At n) = refl
+deadline_small : (d : Option ℕ) → ltb (deadline_flag d) 2 ≡ true
+deadline_small None = refl
+deadline_small (Some n) = refl
 
 abbrev flags_in : List ℕ → Bool
 flags_in s = ltb (byte_at 25 s) 2 && ltb (byte_at 38 s) 2
@@ -82,10 +81,10 @@ abbrev state_in : List ℕ → Bool
 state_in s = ltb (byte_at 12 s) 3 || (ltb (byte_at 12 s) 5 && flags_in s)
 
 -- records with the same fields
-abbrev transfer_with : ℕ → ℕ → ℕ → ℕ → ℕ → Deadline → ℕ → Bool → SdoTransferState
+abbrev transfer_with : ℕ → ℕ → ℕ → ℕ → ℕ → Option ℕ → ℕ → Bool → SdoTransferState
 transfer_with a b c d e f g h = record { transaction = a; total = b; offset = c; index = d; sub = e; deadline = f; retries = g; stored = h }
 
-same_transfer : (a b c d e : ℕ) (f : Deadline) (g : ℕ) (h : Bool) (t : SdoTransferState) → a ≡ t.transaction → b ≡ t.total → c ≡ t.offset → d ≡ t.index → e ≡ t.sub → f ≡ t.deadline → g ≡ t.retries → h ≡ t.stored → transfer_with a b c d e f g h ≡ t
+same_transfer : (a b c d e : ℕ) (f : Option ℕ) (g : ℕ) (h : Bool) (t : SdoTransferState) → a ≡ t.transaction → b ≡ t.total → c ≡ t.offset → d ≡ t.index → e ≡ t.sub → f ≡ t.deadline → g ≡ t.retries → h ≡ t.stored → transfer_with a b c d e f g h ≡ t
 same_transfer a b c d e f g h t e1 e2 e3 e4 e5 e6 e7 e8 = rw (e1, e2, e3, e4, e5, e6, e7, e8)
 
 abbrev record_with : Bool → SdoClientInfo → ℕ → ℕ → ℕ → SdoServerState → Connection

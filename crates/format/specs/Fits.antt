@@ -1,10 +1,8 @@
 -- What fits its bytes: the numbers that take several bytes are below the power of 256. Nothing is asked of a field of one byte.
-use Rattle.std.specs.Prelude.{◌<◌, ◌^◌, List, [], ◌∷◌}
+use Rattle.std.specs.Prelude.{ℕ, ◌<◌, ◌^◌, List, [], ◌∷◌, Option, None, Some}
 use Prim.{Unit}
 use Rattle.protocol.specs.declared.SdoClientInfo.{SdoClientInfo}
 use Rattle.protocol.specs.declared.SdoClientInfo.TheVariants.{Asnd, Udp}
-use Rattle.protocol.specs.declared.Deadline.{Deadline}
-use Rattle.protocol.specs.declared.Deadline.TheVariants.{NoDeadline, At}
 use Rattle.protocol.specs.declared.SdoTransferState.{SdoTransferState}
 use Rattle.protocol.specs.declared.SdoServerState.{SdoServerState}
 use Rattle.protocol.specs.declared.SdoServerState.TheVariants.{Closed, Opening, Established, SegmentedDownload, SegmentedUpload}
@@ -14,9 +12,9 @@ abbrev pub FitsClient : SdoClientInfo → Type 0
 FitsClient (Asnd node mac) = mac < 256 ^ 6
 FitsClient (Udp ip port) = (ip < 256 ^ 4) × (port < 256 ^ 2)
 
-abbrev pub FitsDeadline : Deadline → Type 0
-FitsDeadline NoDeadline = Unit
-FitsDeadline (At n) = n < 256 ^ 8
+abbrev pub FitsDeadline : Option ℕ → Type 0
+FitsDeadline None = Unit
+FitsDeadline (Some n) = n < 256 ^ 8
 
 pub record FitsTransfer (t : SdoTransferState) : Type 0 where
   pub total : t.total < 256 ^ 4

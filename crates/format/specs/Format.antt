@@ -1,11 +1,9 @@
 -- Clients, records and tables as bytes, in the order of replay-format.md (oracle/REPLAY.md has the same layout); "Little-endian throughout". A byte past the end reads as 0.
-use Rattle.std.specs.Prelude.{ℕ, zero, suc, ◌+◌, ◌*◌, ◌/◌, ◌%◌, Bool, true, false, ◌&&◌, ◌||◌, List, [], ◌∷◌, ◌++◌, map, length, get_or, take, drop, replicate, ltb, eqb}
+use Rattle.std.specs.Prelude.{ℕ, zero, suc, ◌+◌, ◌*◌, ◌/◌, ◌%◌, Bool, true, false, ◌&&◌, ◌||◌, List, [], ◌∷◌, ◌++◌, map, length, get_or, take, drop, replicate, ltb, eqb, Option, None, Some}
 use Rattle.picks.specs.Pick.{pick, every}
 use Rattle.octets.specs.Octets.{le, le_bytes}
 use Rattle.protocol.specs.declared.SdoClientInfo.{SdoClientInfo}
 use Rattle.protocol.specs.declared.SdoClientInfo.TheVariants.{Asnd, Udp}
-use Rattle.protocol.specs.declared.Deadline.{Deadline}
-use Rattle.protocol.specs.declared.Deadline.TheVariants.{NoDeadline, At}
 use Rattle.protocol.specs.declared.SdoTransferState.{SdoTransferState}
 use Rattle.protocol.specs.declared.SdoServerState.{SdoServerState}
 use Rattle.protocol.specs.declared.SdoServerState.TheVariants.{Closed, Opening, Established, SegmentedDownload, SegmentedUpload}
@@ -51,13 +49,13 @@ state_number (SegmentedUpload t) = 3
 state_number (SegmentedDownload t) = 4
 
 -- "25 deadline present, 0 or 1; 26 deadline u64, 0 if absent"
-abbrev pub deadline_flag : Deadline → ℕ
-deadline_flag NoDeadline = 0
-deadline_flag (At n) = 1
+abbrev pub deadline_flag : Option ℕ → ℕ
+deadline_flag None = 0
+deadline_flag (Some n) = 1
 
-abbrev pub deadline_time : Deadline → ℕ
-deadline_time NoDeadline = 0
-deadline_time (At n) = n
+abbrev pub deadline_time : Option ℕ → ℕ
+deadline_time None = 0
+deadline_time (Some n) = n
 
 -- "13 transaction id; 14 total u32; 18 offset u32; 22 index u16; 24 sub; …; 34 retries u32; 38 stored piece present, 0 or 1"
 unfoldable pub transfer_bytes : SdoTransferState → List ℕ
@@ -78,8 +76,8 @@ record_bytes c =
     flag c.used ∷ (client_bytes c.client ++ (c.area ∷ c.send ∷ c.receive ∷ state_number c.state ∷ []) ++ state_bytes c.state ++ (0 ∷ []))
 
 -- what the bytes of a record say
-abbrev pub deadline_of : List ℕ → Deadline
-deadline_of s = pick (eqb (byte_at 25 s) 1) (At (number_at 8 26 s)) NoDeadline
+abbrev pub deadline_of : List ℕ → Option ℕ
+deadline_of s = pick (eqb (byte_at 25 s) 1) (Some (number_at 8 26 s)) None
 
 unfoldable pub transfer_of : List ℕ → SdoTransferState
 transfer_of s = record { transaction = byte_at 13 s; total = number_at 4 14 s; offset = number_at 4 18 s; index = number_at 2 22 s; sub = byte_at 24 s; deadline = deadline_of s; retries = number_at 4 34 s; stored = eqb (byte_at 38 s) 1 }

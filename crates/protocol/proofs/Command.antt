@@ -18,11 +18,9 @@ use Rattle.protocol.specs.declared.CommandId.{CommandId}
 use Rattle.protocol.specs.declared.Segmentation.{Segmentation}
 use Rattle.protocol.specs.declared.Segmentation.TheVariants.{Expedited, Initiate, Segment, Complete}
 use Rattle.protocol.specs.declared.CommandLayerHeader.{CommandLayerHeader}
-use Rattle.protocol.specs.declared.DataSize.{DataSize}
-use Rattle.protocol.specs.declared.DataSize.TheVariants.{NoSize, Size}
+use Rattle.std.specs.Prelude.{Option, None, Some, Result, Ok, Err}
 use Rattle.protocol.specs.declared.SdoCommand.{SdoCommand}
-use Rattle.protocol.specs.declared.IdRead.{IdRead}
-use Rattle.protocol.specs.declared.IdRead.TheVariants as I
+use Rattle.protocol.specs.declared.InvalidEnumValue.{InvalidEnumValue}
 use Rattle.protocol.specs.Coding.{refused, value}
 use Rattle.protocol.specs.Command.{Command, FlagPlaces, Separate, WellFormed, decoded, undecodable, kept_flags, clear_reserved, segmentation_of, id_byte, id_of, known_ids, header_length, total_number, total_bytes, total_of, is_initiate, is_present, fixed_header, header_of, payload_of, command_of, with_payload, encode_command, decode_with, decode_id, decode_command}
 use Rattle.protocol.proofs.Coding.{past_test}
@@ -41,7 +39,7 @@ header_at_most Segment = omega arith
 header_at_most Complete = omega arith
 
 -- the length of the total's bytes, and of a whole command's
-total_length : (s : Segmentation) (d : DataSize) → 8 + length (total_bytes s d) ≡ header_length s
+total_length : (s : Segmentation) (d : Option ℕ) → 8 + length (total_bytes s d) ≡ header_length s
 unfolding le_bytes
 total_length Expedited d = refl
 total_length Initiate d = refl
@@ -52,7 +50,7 @@ fixed_length : (P : FlagPlaces) (h : CommandLayerHeader) → length (fixed_heade
 unfolding fixed_header le_bytes
 fixed_length P h = refl
 
-framed_length : (P : FlagPlaces) (h : CommandLayerHeader) (d : DataSize) (q : List ℕ) → length (fixed_header P h ++ total_bytes h.segmentation d ++ q) ≡ header_length h.segmentation + length q
+framed_length : (P : FlagPlaces) (h : CommandLayerHeader) (d : Option ℕ) (q : List ℕ) → length (fixed_header P h ++ total_bytes h.segmentation d ++ q) ≡ header_length h.segmentation + length q
 unfolding fixed_header le_bytes
 framed_length P h d q = simp length-append (omega (arith, total_length h.segmentation d))
 
@@ -73,23 +71,23 @@ stored_command P c p d =
     rw (e, m) (splice_splice 0 (f ++ t) p d)
 
 -- what stands behind the header is the payload, and the total reads back
-behind_header : (P : FlagPlaces) (h : CommandLayerHeader) (d : DataSize) (q : List ℕ) (s : Segmentation) → drop (header_length s) (fixed_header P h ++ total_bytes s d ++ q) ≡ q
+behind_header : (P : FlagPlaces) (h : CommandLayerHeader) (d : Option ℕ) (q : List ℕ) (s : Segmentation) → drop (header_length s) (fixed_header P h ++ total_bytes s d ++ q) ≡ q
 unfolding fixed_header le_bytes
 behind_header P h d q Expedited = refl
 behind_header P h d q Initiate = refl
 behind_header P h d q Segment = refl
 behind_header P h d q Complete = refl
 
-total_back : (P : FlagPlaces) (h : CommandLayerHeader) (q : List ℕ) (s : Segmentation) (d : DataSize) → is_present d ≡ is_initiate s → total_number d < 4294967296 → total_of s (fixed_header P h ++ total_bytes s d ++ q) ≡ d
+total_back : (P : FlagPlaces) (h : CommandLayerHeader) (q : List ℕ) (s : Segmentation) (d : Option ℕ) → is_present d ≡ is_initiate s → total_number d < 4294967296 → total_of s (fixed_header P h ++ total_bytes s d ++ q) ≡ d
 unfolding fixed_header le_bytes
-total_back P h q Expedited NoSize e l = refl
-total_back P h q Segment NoSize e l = refl
-total_back P h q Complete NoSize e l = refl
-total_back P h q Initiate (Size n) e l = ap Size (ap le (take_at (le_bytes 4 n) q 4 (length_le_bytes 4 n)) ∙ le_le_bytes_below 4 n l)
-total_back P h q Expedited (Size n) e l = absurd (let z : ◌≡◌ {A = ℕ} 0 1 = cc in omega arith)
-total_back P h q Segment (Size n) e l = absurd (let z : ◌≡◌ {A = ℕ} 0 1 = cc in omega arith)
-total_back P h q Complete (Size n) e l = absurd (let z : ◌≡◌ {A = ℕ} 0 1 = cc in omega arith)
-total_back P h q Initiate NoSize e l = absurd (let z : ◌≡◌ {A = ℕ} 0 1 = cc in omega arith)
+total_back P h q Expedited None e l = refl
+total_back P h q Segment None e l = refl
+total_back P h q Complete None e l = refl
+total_back P h q Initiate (Some n) e l = ap Some (ap le (take_at (le_bytes 4 n) q 4 (length_le_bytes 4 n)) ∙ le_le_bytes_below 4 n l)
+total_back P h q Expedited (Some n) e l = absurd (let z : ◌≡◌ {A = ℕ} 0 1 = cc in omega arith)
+total_back P h q Segment (Some n) e l = absurd (let z : ◌≡◌ {A = ℕ} 0 1 = cc in omega arith)
+total_back P h q Complete (Some n) e l = absurd (let z : ◌≡◌ {A = ℕ} 0 1 = cc in omega arith)
+total_back P h q Initiate None e l = absurd (let z : ◌≡◌ {A = ℕ} 0 1 = cc in omega arith)
 
 -- what decoding finds, by its tests
 module _ (P : FlagPlaces) (b : List ℕ) where
@@ -97,11 +95,11 @@ module _ (P : FlagPlaces) (b : List ℕ) where
   unfolding decode_command pick
   decode_short l = rw (lt-ltb (length b) 8 l)
 
-  pub decode_unknown : 8 ≤ length b → id_of (get_or b 3 0) ≡ I.InvalidEnumValue → decode_command P b ≡ value undecodable
+  pub decode_unknown : 8 ≤ length b → id_of (get_or b 3 0) ≡ Err (record {}) → decode_command P b ≡ value undecodable
   unfolding decode_command decode_id pick
   decode_unknown l e = rw (le-ltb (length b) 8 l, e)
 
-  pub decode_known : (i : CommandId) → 8 ≤ length b → id_of (get_or b 3 0) ≡ I.Id i → decode_command P b ≡ decode_with (header_of P i b) b
+  pub decode_known : (i : CommandId) → 8 ≤ length b → id_of (get_or b 3 0) ≡ Ok i → decode_command P b ≡ decode_with (header_of P i b) b
   unfolding decode_command decode_id pick
   decode_known i l e = rw (le-ltb (length b) 8 l, e)
 
@@ -155,7 +153,7 @@ module _ (P : FlagPlaces) (apart : Separate P) where
 -- what a decoded command says of its bytes
 pub record Decodes (P : FlagPlaces) (b : List ℕ) (c : Command) : Type 0 where
   pub id : CommandId
-  pub known : id_of (get_or b 3 0) ≡ I.Id id
+  pub known : id_of (get_or b 3 0) ≡ Ok id
   pub whole : header_length (header_of P id b).segmentation + (header_of P id b).size ≤ length b
   pub command : command_of (header_of P id b) b ≡ c
 
@@ -172,9 +170,9 @@ pub decode_inverts : (P : FlagPlaces) (b : List ℕ) (c : Command) → decode_co
 unfolding decode_command decode_id
 decode_inverts P b c e = by_id (id_of (get_or b 3 0)) refl (past_test _ _ _ _ e).1
   where
-    by_id : (k : IdRead) → id_of (get_or b 3 0) ≡ k → decode_id P k b ≡ value (decoded c) → Decodes P b c
-    by_id I.InvalidEnumValue g f = absurd (let z : ◌≡◌ {A = ℕ} 0 1 = cc in omega arith)
-    by_id (I.Id i) g f = let w = inverts_whole (header_of P i b) b c f in record { id = i; known = g; whole = w.0; command = w.1 }
+    by_id : (k : Result CommandId InvalidEnumValue) → id_of (get_or b 3 0) ≡ k → decode_id P k b ≡ value (decoded c) → Decodes P b c
+    by_id (Err u) g f = absurd (let z : ◌≡◌ {A = ℕ} 0 1 = cc in omega arith)
+    by_id (Ok i) g f = let w = inverts_whole (header_of P i b) b c f in record { id = i; known = g; whole = w.0; command = w.1 }
 
 -- the total's bytes and the payload are what stands from byte 8 on
 total_payload : (b : List ℕ) (n : ℕ) → AllBytes b → (s : Segmentation) → header_length s + n ≤ length b → total_bytes s (total_of s b) ++ take n (drop (header_length s) b) ≡ take (header_length s - 8 + n) (drop 8 b)
@@ -251,9 +249,9 @@ module _ (P : FlagPlaces) (apart : Separate P) where
   unfolding decode_command decode_id
   clear_eight x0 x1 x2 x3 x4 x5 x6 x7 r = rw (by_id (id_of x3))
     where
-      by_id : (k : IdRead) → decode_id P k (0 ∷ x1 ∷ kept_flags P x2 ∷ x3 ∷ x4 ∷ x5 ∷ 0 ∷ 0 ∷ r) ≡ decode_id P k (x0 ∷ x1 ∷ x2 ∷ x3 ∷ x4 ∷ x5 ∷ x6 ∷ x7 ∷ r)
-      by_id I.InvalidEnumValue = refl
-      by_id (I.Id i) =
+      by_id : (k : Result CommandId InvalidEnumValue) → decode_id P k (0 ∷ x1 ∷ kept_flags P x2 ∷ x3 ∷ x4 ∷ x5 ∷ 0 ∷ 0 ∷ r) ≡ decode_id P k (x0 ∷ x1 ∷ x2 ∷ x3 ∷ x4 ∷ x5 ∷ x6 ∷ x7 ∷ r)
+      by_id (Err u) = refl
+      by_id (Ok i) =
           let h = header_of P i (x0 ∷ x1 ∷ x2 ∷ x3 ∷ x4 ∷ x5 ∷ x6 ∷ x7 ∷ r) in
           ap (λ (y : CommandLayerHeader). decode_with y (0 ∷ x1 ∷ kept_flags P x2 ∷ x3 ∷ x4 ∷ x5 ∷ 0 ∷ 0 ∷ r)) (clear_header i x1 x2 x3 x4 x5 r r x0 x6 x7)
           ∙ same_command (0 ∷ x1 ∷ kept_flags P x2 ∷ x3 ∷ x4 ∷ x5 ∷ 0 ∷ 0 ∷ r) (x0 ∷ x1 ∷ x2 ∷ x3 ∷ x4 ∷ x5 ∷ x6 ∷ x7 ∷ r) refl h refl

@@ -16,8 +16,7 @@ use Rattle.picks.proofs.Keep.{by_test, not_both, both, of_both, keep_yes, keep_n
 use Rattle.octets.proofs.Splice.{length_splice, part_splice, part_before, part_behind}
 use Rattle.protocol.specs.declared.SdoClientInfo.{SdoClientInfo}
 use Rattle.protocol.specs.declared.SdoClientInfo.TheVariants.{Asnd, Udp}
-use Rattle.protocol.specs.declared.Deadline.{Deadline}
-use Rattle.protocol.specs.declared.Deadline.TheVariants.{NoDeadline, At}
+use Rattle.std.specs.Prelude.{Option, None, Some}
 use Rattle.protocol.specs.declared.SdoTransferState.{SdoTransferState}
 use Rattle.protocol.specs.declared.SdoServerState.{SdoServerState}
 use Rattle.protocol.specs.declared.SdoServerState.TheVariants.{Closed, Opening, Established, SegmentedDownload, SegmentedUpload}
@@ -332,9 +331,9 @@ module _ (t : List Connection) (sound : sound_table t ≡ true) where
   record_sound i h = every_at sound_record t i (fresh 0) (of_sound t sound).2 h
 
 -- an upload that is due has its stored piece
-past_deadline : (clock : ℕ) (d : Deadline) → is_past clock d ≡ true → has_deadline d ≡ true
-past_deadline clock NoDeadline e = e
-past_deadline clock (At n) e = refl
+past_deadline : (clock : ℕ) (d : Option ℕ) → is_past clock d ≡ true → has_deadline d ≡ true
+past_deadline clock None e = e
+past_deadline clock (Some n) e = refl
 
 upload_deadline : (u : SdoTransferState) → sound_upload u ≡ true → pick u.stored (has_deadline u.deadline) (not (has_deadline u.deadline) && eqb u.retries 0) ≡ true
 unfolding sound_upload
@@ -694,7 +693,7 @@ module _ (t : List Connection) (clock : ℕ) where
   chosen_none h = first_out (is_due clock) t h
 
 -- A record is due from the clock on that is its deadline, and not before: the bench card's "deadline 1,000,000 …, clock 999,999; 1,000,000".
-module _ (clock n : ℕ) (r : Connection) (used : r.used ≡ true) (deadline : transfer_deadline r.state ≡ At n) where
+module _ (clock n : ℕ) (r : Connection) (used : r.used ≡ true) (deadline : transfer_deadline r.state ≡ Some n) where
   pub due_from_deadline : n ≤ clock → is_due clock r ≡ true
   due_from_deadline h = both used (ap (is_past clock) deadline ∙ le-leb n clock h)
 

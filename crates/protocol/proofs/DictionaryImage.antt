@@ -16,10 +16,10 @@ use Rattle.octets.proofs.Splice.{length_splice, part_splice, part_behind}
 use Rattle.octets.proofs.Little.{le_bound, le_le_bytes_below, length_le_bytes}
 use Rattle.octets.proofs.Bytes.{bytes_drop, bytes_splice, bytes_le_bytes}
 use Rattle.protocol.specs.declared.Entry.{Entry}
-use Rattle.protocol.specs.declared.Lookup.{Lookup}
-use Rattle.protocol.specs.declared.Lookup.TheVariants.{NoObject, NoSubIndex, Found}
-use Rattle.protocol.specs.declared.Access.{Access}
-use Rattle.protocol.specs.declared.Access.TheVariants.{Denied, Granted}
+use Rattle.std.specs.Prelude.{Result, Ok, Err}
+use Rattle.protocol.specs.declared.LookupError.{LookupError}
+use Rattle.protocol.specs.declared.LookupError.TheVariants.{NoObject, NoSubIndex}
+use Rattle.protocol.specs.declared.AbortCode.{AbortCode}
 use Rattle.protocol.specs.Constants.{CAPACITY_MAX, IMAGE_MAX, DEFAULT_TIMEOUT, DEFAULT_RETRIES}
 use Rattle.protocol.specs.DictionaryImage.{entry_count, entry_at, entries_from, entries, is_variable, is_read_only, contents_end, key, sound_entry, sound_entries, sound_image, is_at, lookup_in, lookup, value_of, parameter_of, timeout_of, retries_of, writable, write_image}
 use Rattle.protocol.proofs.Lists.{get_d_outside, same_part}
@@ -311,13 +311,13 @@ record At (es : List Entry) (index sub : ℕ) (e : Entry) : Type 0 where
   same_index : e.index ≡ index
   same_sub : e.sub ≡ sub
 
-found_at : (es : List Entry) (index sub : ℕ) (seen : Bool) (e : Entry) → lookup_in es index sub seen ≡ Found e → At es index sub e
+found_at : (es : List Entry) (index sub : ℕ) (seen : Bool) (e : Entry) → lookup_in es index sub seen ≡ Ok e → At es index sub e
 unfolding lookup_in pick
 found_at [] index sub true e f = absurd (let z : ◌≡◌ {A = ℕ} 0 1 = cc in omega arith)
 found_at [] index sub false e f = absurd (let z : ◌≡◌ {A = ℕ} 0 1 = cc in omega arith)
 found_at (x ∷ es) index sub seen e f = go (is_at index sub x) refl (found_at es index sub (seen || eqb x.index index) e)
   where
-    go : (b : Bool) → is_at index sub x ≡ b → (lookup_in es index sub (seen || eqb x.index index) ≡ Found e → At es index sub e) → At (x ∷ es) index sub e
+    go : (b : Bool) → is_at index sub x ≡ b → (lookup_in es index sub (seen || eqb x.index index) ≡ Ok e → At es index sub e) → At (x ∷ es) index sub e
     go true t r =
         let q : x ≡ e = cc (rw t at f) in
         let h = (and-eq-true_iff (eqb x.index index) (eqb x.sub sub)).0 t in
@@ -345,7 +345,7 @@ pub record Found-entry (image : List ℕ) (index sub : ℕ) (e : Entry) : Type 0
   pub same_sub : e.sub ≡ sub
 
 -- what is found is listed and has the index and the sub-index that were asked for
-pub lookup_found : (image : List ℕ) (index sub : ℕ) (e : Entry) → lookup image index sub ≡ Found e → Found-entry image index sub e
+pub lookup_found : (image : List ℕ) (index sub : ℕ) (e : Entry) → lookup image index sub ≡ Ok e → Found-entry image index sub e
 unfolding lookup
 lookup_found image index sub e f =
     let a = found_at (entries image) index sub false e f in
@@ -357,7 +357,7 @@ lookup_found image index sub e f =
     }
 
 -- an entry is found that no entry before it hides
-lookup_at : (es : List Entry) (i index sub : ℕ) (seen : Bool) (z : Entry) → i < length es → ((j : ℕ) → j < i → is_at index sub (get_or es j z) ≡ false) → is_at index sub (get_or es i z) ≡ true → lookup_in es index sub seen ≡ Found (get_or es i z)
+lookup_at : (es : List Entry) (i index sub : ℕ) (seen : Bool) (z : Entry) → i < length es → ((j : ℕ) → j < i → is_at index sub (get_or es j z) ≡ false) → is_at index sub (get_or es i z) ≡ true → lookup_in es index sub seen ≡ Ok (get_or es i z)
 unfolding lookup_in pick
 lookup_at [] i index sub seen z l h t = absurd (omega arith)
 lookup_at (x ∷ es) zero index sub seen z l h t = rw t
@@ -384,11 +384,11 @@ not_before image t {e} m j h =
     rw (entries_at image j e b) (other_not_at (entry_at image (2 + 12 * j)) e (keys_ascend image t (listed image j b) m h))
 
 -- in a sound image each listed entry is found at its own index and sub-index
-pub lookup_listed : (image : List ℕ) → sound_image image ≡ true → {e : Entry} → Listed image e → lookup image e.index e.sub ≡ Found e
+pub lookup_listed : (image : List ℕ) → sound_image image ≡ true → {e : Entry} → Listed image e → lookup image e.index e.sub ≡ Ok e
 unfolding lookup
 lookup_listed image t {e} m =
     let q = listed_at m e in
-    lookup_at (entries image) m.position e.index e.sub false e (listed_below m) (not_before image t m) (rw q (own_at e)) ∙ ap Found q
+    lookup_at (entries image) m.position e.index e.sub false e (listed_below m) (not_before image t m) (rw q (own_at e)) ∙ ap Ok q
 
 -- entries with another index or sub-index stand at other positions
 pub other_position : {image : List ℕ} {e f : Entry} (m : Listed image e) (o : Listed image f) → (f.index ≡ e.index → f.sub ≡ e.sub → ⊥) → o.position ≢ m.position
@@ -397,13 +397,13 @@ other_position {image} {e} {f} m o d q =
     d (ap (λ (x : Entry). x.index) same) (ap (λ (x : Entry). x.sub) same)
 
 -- where an entry was not what was found, it may be another
-not_this : (b : Bool) (f g : Entry) (x y r : Lookup) → ((e : Entry) → r ≡ Found e → ⊥) → pick b (Found f) x ≡ r → (x ≡ r → y ≡ r) → pick b (Found g) y ≡ r
+not_this : (b : Bool) (f g : Entry) (x y r : Result Entry LookupError) → ((e : Entry) → r ≡ Ok e → ⊥) → pick b (Ok f) x ≡ r → (x ≡ r → y ≡ r) → pick b (Ok g) y ≡ r
 unfolding pick
 not_this true f g x y r d h k = absurd (d f (sym h))
 not_this false f g x y r d h k = k h
 
 -- what was missing is missing when an entry has another length
-resized_missing : (es : List Entry) (i n index sub : ℕ) (seen : Bool) (e : Entry) (r : Lookup) → get_or es i e ≡ e → ((f : Entry) → r ≡ Found f → ⊥) → lookup_in es index sub seen ≡ r → lookup_in (set es i (resized e n)) index sub seen ≡ r
+resized_missing : (es : List Entry) (i n index sub : ℕ) (seen : Bool) (e : Entry) (r : Result Entry LookupError) → get_or es i e ≡ e → ((f : Entry) → r ≡ Ok f → ⊥) → lookup_in es index sub seen ≡ r → lookup_in (set es i (resized e n)) index sub seen ≡ r
 unfolding lookup_in pick
 resized_missing [] i n index sub seen e r q d h = h
 resized_missing (x ∷ es) zero n index sub seen e r q d h =
@@ -416,11 +416,10 @@ resized_missing (x ∷ es) (suc i) n index sub seen e r q d h =
 -- The two parameters.
 
 -- a value of four bytes, or a default below 2^32
-parameter_below : (image : List ℕ) (default : ℕ) (r : Lookup) → AllBytes image → default < 4294967296 → parameter_of image default r < 4294967296
+parameter_below : (image : List ℕ) (default : ℕ) (r : Result Entry LookupError) → AllBytes image → default < 4294967296 → parameter_of image default r < 4294967296
 unfolding parameter_of
-parameter_below image default NoObject g l = l
-parameter_below image default NoSubIndex g l = l
-parameter_below image default (Found e) g l = pick_elim (λ (n : ℕ). n < 4294967296) _ _ _ four (λ _. l)
+parameter_below image default (Err missing) g l = l
+parameter_below image default (Ok e) g l = pick_elim (λ (n : ℕ). n < 4294967296) _ _ _ four (λ _. l)
   where
     four : (eqb e.length 4 && not (is_variable e)) ≡ true → le (value_of image e) < 4294967296
     four t = rw (eqb-true e.length 4 ((and-eq-true_iff _ _).0 t).0) (le_bound 4 (drop e.body image) (bytes_drop e.body image g))
@@ -438,30 +437,30 @@ retries_below image g = parameter_below image DEFAULT_RETRIES _ g (lit< tt)
 -- A write.
 
 -- what a granted write of n bytes says of the entry
-pub record Grants (r : Lookup) (n : ℕ) (e : Entry) : Type 0 where
-  pub found : r ≡ Found e
+pub record Grants (r : Result Entry LookupError) (n : ℕ) (e : Entry) : Type 0 where
+  pub found : r ≡ Ok e
   pub fits : n ≤ e.capacity
   pub full : is_variable e ≡ false → n ≡ e.capacity
   pub open_to_writes : is_read_only e ≡ false
 
-past_denial : (b : Bool) (code : ℕ) (x : Access) (e : Entry) → pick b (Denied code) x ≡ Granted e → (b ≡ false) × (x ≡ Granted e)
+past_denial : (b : Bool) (code : AbortCode) (x : Result Entry AbortCode) (e : Entry) → pick b (Err code) x ≡ Ok e → (b ≡ false) × (x ≡ Ok e)
 unfolding pick
 past_denial true code x e g = absurd (let z : ◌≡◌ {A = ℕ} 0 1 = cc in omega arith)
 past_denial false code x e g = (refl, g)
 
 -- a write is granted only to an entry that was found, that the data fit and that is not read-only
-pub writable_granted : (r : Lookup) (n : ℕ) (e : Entry) → writable r n ≡ Granted e → Grants r n e
+pub writable_granted : (r : Result Entry LookupError) (n : ℕ) (e : Entry) → writable r n ≡ Ok e → Grants r n e
 unfolding writable
-writable_granted NoObject n e g = absurd (let z : ◌≡◌ {A = ℕ} 0 1 = cc in omega arith)
-writable_granted NoSubIndex n e g = absurd (let z : ◌≡◌ {A = ℕ} 0 1 = cc in omega arith)
-writable_granted (Found x) n e g =
+writable_granted (Err NoObject) n e g = absurd (let z : ◌≡◌ {A = ℕ} 0 1 = cc in omega arith)
+writable_granted (Err NoSubIndex) n e g = absurd (let z : ◌≡◌ {A = ℕ} 0 1 = cc in omega arith)
+writable_granted (Ok x) n e g =
     let a = past_denial _ _ _ _ g in
     let b = past_denial _ _ _ _ a.1 in
     let c = past_denial _ _ _ _ b.1 in
     let q : x ≡ e = cc c.1 in
-    subst (λ (y : Entry). Grants (Found x) n y) q (the_grant a.0 b.0 c.0)
+    subst (λ (y : Entry). Grants (Ok x) n y) q (the_grant a.0 b.0 c.0)
   where
-    the_grant : (not (is_variable x) && ltb n x.capacity) ≡ false → ltb x.capacity n ≡ false → is_read_only x ≡ false → Grants (Found x) n x
+    the_grant : (not (is_variable x) && ltb n x.capacity) ≡ false → ltb x.capacity n ≡ false → is_read_only x ≡ false → Grants (Ok x) n x
     the_grant a b c =
         let h = ltb-false x.capacity n b in
         record {
@@ -520,7 +519,7 @@ pub record Write (image : List ℕ) (e : Entry) (bytes : List ℕ) : Type 0 wher
   pub full : is_variable e ≡ false → length bytes ≡ e.capacity
 
 -- each write that is granted is such a write
-pub granted_write : (image : List ℕ) (index sub : ℕ) (e : Entry) (bytes : List ℕ) → sound_image image ≡ true → writable (lookup image index sub) (length bytes) ≡ Granted e → Write image e bytes
+pub granted_write : (image : List ℕ) (index sub : ℕ) (e : Entry) (bytes : List ℕ) → sound_image image ≡ true → writable (lookup image index sub) (length bytes) ≡ Ok e → Write image e bytes
 granted_write image index sub e bytes t g =
     let w = writable_granted _ _ _ g in
     record { sound = t; listed = (lookup_found image index sub e w.found).listed; fits = w.fits; full = w.full }
@@ -643,15 +642,15 @@ module _ {image : List ℕ} {e : Entry} {bytes : List ℕ} (w : Write image e by
           omega (arith, bodies_apart image w.sound w.listed o (omega arith), w.fits)
 
   -- the entry written to is found with its new length
-  pub write_lookup : lookup (write_image image e bytes) e.index e.sub ≡ Found (resized e (length bytes))
+  pub write_lookup : lookup (write_image image e bytes) e.index e.sub ≡ Ok (resized e (length bytes))
   write_lookup = lookup_listed (write_image image e bytes) write_keeps_sound write_listed
 
   -- every other entry is found as before
-  pub write_lookup_other : (f : Entry) (o : Listed image f) → o.position ≢ w.listed.position → lookup (write_image image e bytes) f.index f.sub ≡ Found f
+  pub write_lookup_other : (f : Entry) (o : Listed image f) → o.position ≢ w.listed.position → lookup (write_image image e bytes) f.index f.sub ≡ Ok f
   write_lookup_other f o d = lookup_listed (write_image image e bytes) write_keeps_sound (write_listed_other f o d)
 
   -- what was missing is missing as before
-  pub write_lookup_missing : (index sub : ℕ) (r : Lookup) → ((f : Entry) → r ≡ Found f → ⊥) → lookup image index sub ≡ r → lookup (write_image image e bytes) index sub ≡ r
+  pub write_lookup_missing : (index sub : ℕ) (r : Result Entry LookupError) → ((f : Entry) → r ≡ Ok f → ⊥) → lookup image index sub ≡ r → lookup (write_image image e bytes) index sub ≡ r
   unfolding lookup
   write_lookup_missing index sub r d h =
       rw write_entries (resized_missing (entries image) w.listed.position (length bytes) index sub false e r (listed_at w.listed e) d h)

@@ -11,7 +11,7 @@ use Rattle.protocol.specs.declared.CommandId.{CommandId}
 use Rattle.protocol.specs.declared.CommandId.TheVariants.{Nil, WriteByIndex, ReadByIndex, WriteAllByIndex, ReadAllByIndex, WriteByName, ReadByName, FileWrite, FileRead, WriteMultipleParamByIndex, ReadMultipleParamByIndex, Abort, MaxSegmentSize}
 use Rattle.protocol.specs.declared.Segmentation.{Segmentation}
 use Rattle.protocol.specs.declared.Segmentation.TheVariants.{Expedited, Initiate, Segment, Complete}
-use Rattle.protocol.specs.declared.IdRead.TheVariants as I
+use Rattle.std.specs.Prelude.{Ok}
 use Rattle.protocol.specs.Command.{FlagPlaces, flag_places, bit, flags_byte, kept_flags, Separate, segmentation_number, segmentation_of, id_byte, known_ids, id_among, id_of}
 
 -- a flag and its bit
@@ -41,7 +41,7 @@ segmentation_number_lem (suc (suc (suc zero))) h = refl
 segmentation_number_lem (suc (suc (suc (suc k)))) h = absurd (omega arith)
 
 -- an id and its byte
-pub id_back : (i : CommandId) → id_of (id_byte i) ≡ I.Id i
+pub id_back : (i : CommandId) → id_of (id_byte i) ≡ Ok i
 unfolding id_of id_among known_ids pick
 id_back Nil = refl
 id_back WriteByIndex = refl
@@ -57,12 +57,12 @@ id_back ReadMultipleParamByIndex = refl
 id_back Abort = refl
 id_back MaxSegmentSize = refl
 
-pub id_number : (is : List CommandId) (b : ℕ) (i : CommandId) → id_among is b ≡ I.Id i → id_byte i ≡ b
+pub id_number : (is : List CommandId) (b : ℕ) (i : CommandId) → id_among is b ≡ Ok i → id_byte i ≡ b
 unfolding id_among pick
 id_number [] b i e = absurd (let z : ◌≡◌ {A = ℕ} 0 1 = cc in omega arith)
 id_number (x ∷ is) b i e = go (eqb b (id_byte x)) refl (id_number is b i)
   where
-    go : (t : Bool) → eqb b (id_byte x) ≡ t → (id_among is b ≡ I.Id i → id_byte i ≡ b) → id_byte i ≡ b
+    go : (t : Bool) → eqb b (id_byte x) ≡ t → (id_among is b ≡ Ok i → id_byte i ≡ b) → id_byte i ≡ b
     go true f r = let s : x ≡ i = cc (rw f at e) in rw s at (sym (eqb-true b (id_byte x) f))
     go false f r = r (rw f at e)
 

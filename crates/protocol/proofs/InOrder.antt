@@ -8,7 +8,7 @@ use mathlib.Core.Option.{some}
 use lib.ListN.{length}
 use Rattle.picks.specs.Pick.{pick, every}
 use Rattle.picks.proofs.Keep.{left, both, of_every, every_append}
-use Rattle.protocol.specs.declared.DataSize.TheVariants.{Size}
+use Rattle.std.specs.Prelude.{Some}
 use Rattle.protocol.specs.declared.SdoClientInfo.{SdoClientInfo}
 use Rattle.protocol.specs.Command.{is_initiate}
 use Rattle.protocol.specs.Series.{Call, start, run}
@@ -33,7 +33,7 @@ pub record SpelledInOrder (before : List Frame) (k : Frame) : Type 0 where
   pub first : starts initiate ≡ true
   pub last : every (λ f. not (starts f)) middle ≡ true
   pub held : initiate.held ≡ some (joined (initiate ∷ middle) ++ k.command.payload)
-  pub size : initiate.command.total ≡ Size (length (joined (initiate ∷ middle) ++ k.command.payload))
+  pub size : initiate.command.total ≡ Some (length (joined (initiate ∷ middle) ++ k.command.payload))
 
 -- walking back joins what walking forward joins
 back : List Frame → List ℕ → List ℕ
@@ -130,7 +130,7 @@ finishes_in_order older k f =
       first = w.first;
       last = every_reverse (λ x. not (starts x)) w.newer w.last;
       held = f.held ∙ ap some e;
-      size = f.size ∙ ap (λ l. Size (length l)) e;
+      size = f.size ∙ ap (λ l. Some (length l)) e;
     }
 
 -- whenever a Complete stands at some place among a client's frames in order, it is not under send mark 3, and the frames before it spell the value held

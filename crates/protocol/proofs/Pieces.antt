@@ -11,7 +11,7 @@ use lib.Dec.{leb, eqb}
 use borrow.Author.Tests.{le-leb, lt-leb, eq-eqb, ne_eqb}
 use Rattle.picks.specs.Pick.{pick}
 use Rattle.protocol.specs.declared.Segmentation.TheVariants.{Initiate, Segment, Complete}
-use Rattle.protocol.specs.declared.DataSize.TheVariants.{NoSize, Size}
+use Rattle.std.specs.Prelude.{None, Some}
 use Rattle.protocol.specs.Command.{WellFormed, is_present, is_initiate, total_number}
 use Rattle.protocol.specs.TransferRecord.{piece_length, piece_kind, piece}
 
@@ -66,7 +66,7 @@ pub piece_multiple : (size offset : ℕ) → offset % size ≡ 0 → (offset + s
 piece_multiple size offset e = add-mod_right offset size ∙ e
 
 -- the total stands in the first piece alone, which is an Initiate where the total is above the size
-first_alone : (size total offset : ℕ) → size < total → is_present (pick (eqb offset 0) (Size total) NoSize) ≡ is_initiate (piece_kind size total offset)
+first_alone : (size total offset : ℕ) → size < total → is_present (pick (eqb offset 0) (Some total) None) ≡ is_initiate (piece_kind size total offset)
 unfolding pick
 first_alone size total zero h = rw (lt-leb total (0 + piece_length size total 0) (omega arith))
 first_alone size total (suc o) h = rw (ne_eqb (suc o) 0 (λ e. omega arith)) (go (leb total (suc o + piece_length size total (suc o))))
@@ -75,7 +75,7 @@ first_alone size total (suc o) h = rw (ne_eqb (suc o) 0 (λ e. omega arith)) (go
     go true = refl
     go false = refl
 
-total_number_lem : (total : ℕ) (t : Bool) → total_number (pick t (Size total) NoSize) ≤ total
+total_number_lem : (total : ℕ) (t : Bool) → total_number (pick t (Some total) None) ≤ total
 unfolding pick
 total_number_lem total true = omega arith
 total_number_lem total false = omega arith

@@ -18,11 +18,11 @@ use Rattle.protocol.specs.declared.SdoServerState.{SdoServerState}
 use Rattle.protocol.specs.declared.SdoServerState.TheVariants.{Closed, Opening, Established, SegmentedDownload, SegmentedUpload}
 use Rattle.protocol.specs.declared.Connection.{Connection}
 use Rattle.protocol.specs.declared.Entry.{Entry}
-use Rattle.protocol.specs.declared.Lookup.{Lookup}
-use Rattle.protocol.specs.declared.Lookup.TheVariants.{NoObject, NoSubIndex, Found}
-use Rattle.protocol.specs.declared.Access.{Access}
-use Rattle.protocol.specs.declared.Access.TheVariants.{Denied, Granted}
-use Rattle.protocol.specs.Constants.{PIECE, SHARE, FIRST_MAX, OFFSET_MAX, CAPACITY_MAX, INVALID_COMMAND, INVALID_SEQUENCE, OUT_OF_MEMORY, LENGTH_MISFIT, LENGTH_TOO_LOW, GENERAL_ERROR, REQUEST_MAX}
+use Rattle.std.specs.Prelude.{Result, Ok, Err}
+use Rattle.protocol.specs.declared.LookupError.{LookupError}
+use Rattle.protocol.specs.declared.LookupError.TheVariants.{NoObject, NoSubIndex}
+use Rattle.protocol.specs.declared.AbortCode.{AbortCode}
+use Rattle.protocol.specs.Constants.{PIECE, SHARE, FIRST_MAX, OFFSET_MAX, CAPACITY_MAX, INVALID_COMMAND, INVALID_SEQUENCE, OUT_OF_MEMORY, LENGTH_MISFIT, LENGTH_TOO_LOW, GENERAL_ERROR, REQUEST_MAX, abort_number}
 use Rattle.protocol.specs.declared.CommandId.{CommandId}
 use Rattle.protocol.specs.declared.CommandId.TheVariants.{Nil, WriteByIndex, ReadByIndex, WriteAllByIndex, ReadAllByIndex, WriteByName, ReadByName, FileWrite, FileRead, WriteMultipleParamByIndex, ReadMultipleParamByIndex, Abort, MaxSegmentSize}
 use Rattle.protocol.specs.declared.Segmentation.{Segmentation}
@@ -159,13 +159,13 @@ module _ (c : Connection) (share image : List ℕ) (clock : ℕ) (sc : sound_rec
 -- what the image laws give: a value that is read fits a share, and a write that is allowed keeps the image sound
 pub record ImageLaws (image : List ℕ) : Type 0 where
   pub sound : sound_image image ≡ true
-  pub short : (index sub : ℕ) (e : Entry) → readable (lookup image index sub) ≡ Granted e → length (value_of image e) ≤ SHARE
-  pub write : (index sub : ℕ) (bytes : List ℕ) (e : Entry) → writable (lookup image index sub) (length bytes) ≡ Granted e → sound_image (write_image image e bytes) ≡ true
+  pub short : (index sub : ℕ) (e : Entry) → readable (lookup image index sub) ≡ Ok e → length (value_of image e) ≤ SHARE
+  pub write : (index sub : ℕ) (bytes : List ℕ) (e : Entry) → writable (lookup image index sub) (length bytes) ≡ Ok e → sound_image (write_image image e bytes) ≡ true
 
-readable_found : (x : Lookup) (e : Entry) → readable x ≡ Granted e → x ≡ Found e
-readable_found NoObject e f = absurd (let z : ◌≡◌ {A = ℕ} 0 1 = cc in omega arith)
-readable_found NoSubIndex e f = absurd (let z : ◌≡◌ {A = ℕ} 0 1 = cc in omega arith)
-readable_found (Found d) e f = let g : d ≡ e = cc in ap Found g
+readable_found : (x : Result Entry LookupError) (e : Entry) → readable x ≡ Ok e → x ≡ Ok e
+readable_found (Err NoObject) e f = absurd (let z : ◌≡◌ {A = ℕ} 0 1 = cc in omega arith)
+readable_found (Err NoSubIndex) e f = absurd (let z : ◌≡◌ {A = ℕ} 0 1 = cc in omega arith)
+readable_found (Ok d) e f = let g : d ≡ e = cc in ap Ok g
 
 pub image_laws : (image : List ℕ) → sound_image image ≡ true → ImageLaws image
 image_laws image t = record {
@@ -191,9 +191,9 @@ module _ (c : Connection) (share image : List ℕ) (clock transaction : ℕ) (sc
   read_fine p =
       pick_elim (Fine c) (ltb (length p) 4) _ _ (λ e. abort_fine INVALID_COMMAND) (λ e. by_access (readable (lookup image (index_of p) (sub_of p))) refl)
     where
-      by_access : (x : Access) → readable (lookup image (index_of p) (sub_of p)) ≡ x → Fine c (read_entry c share image clock transaction (index_of p) (sub_of p) x)
-      by_access (Denied code) f = abort_fine code
-      by_access (Granted e) f =
+      by_access : (x : Result Entry AbortCode) → readable (lookup image (index_of p) (sub_of p)) ≡ x → Fine c (read_entry c share image clock transaction (index_of p) (sub_of p) x)
+      by_access (Err code) f = abort_fine (abort_number code)
+      by_access (Ok e) f =
           let s = si.short (index_of p) (sub_of p) e f in
           pick_elim (Fine c) (leb (length (value_of image e)) PIECE) _ _ (λ g. reply_fine (value_of image e) (leb-true _ _ g)) (λ g. upload_fine (index_of p) (sub_of p) (value_of image e) (leb-false _ _ g) s)
 
@@ -201,9 +201,9 @@ module _ (c : Connection) (share image : List ℕ) (clock transaction : ℕ) (sc
   unfolding write_object write_entry
   write_fine next index sub bytes a b d s = by_access (writable (lookup image index sub) (length bytes)) refl
     where
-      by_access : (x : Access) → writable (lookup image index sub) (length bytes) ≡ x → Fine c (write_entry c share image clock transaction next bytes x)
-      by_access (Denied code) f = abort_fine code
-      by_access (Granted e) f = replies_fine c share image clock sc ls si.sound next share (write_image image e bytes) transaction [] a b d s ls (si.write index sub bytes e f) (omega arith)
+      by_access : (x : Result Entry AbortCode) → writable (lookup image index sub) (length bytes) ≡ x → Fine c (write_entry c share image clock transaction next bytes x)
+      by_access (Err code) f = abort_fine (abort_number code)
+      by_access (Ok e) f = replies_fine c share image clock sc ls si.sound next share (write_image image e bytes) transaction [] a b d s ls (si.write index sub bytes e f) (omega arith)
 
   expedited_fine : (p : List ℕ) → Fine c (write_expedited c share image clock transaction p)
   unfolding write_expedited

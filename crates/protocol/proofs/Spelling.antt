@@ -12,7 +12,7 @@ use borrow.Author.Tests.{lt-leb}
 use Rattle.picks.specs.Pick.{pick}
 use Rattle.picks.proofs.Keep.{not_both, left, right}
 use Rattle.protocol.specs.declared.Segmentation.TheVariants.{Initiate, Segment}
-use Rattle.protocol.specs.declared.DataSize.TheVariants.{Size}
+use Rattle.std.specs.Prelude.{Some}
 use Rattle.protocol.specs.declared.SdoTransferState.{SdoTransferState}
 use Rattle.protocol.specs.declared.Connection.{Connection}
 use Rattle.protocol.specs.Constants.{PIECE}
@@ -31,7 +31,7 @@ pub record Running (x n o : ℕ) (share : List ℕ) (fs : List Frame) : Type 0 w
   pub bytes : List ℕ
   pub spelled : spell fs [] ≡ some (record { initiate = initiate; bytes = take o bytes })
   pub held : initiate.held ≡ some bytes
-  pub size : initiate.command.total ≡ Size (length bytes)
+  pub size : initiate.command.total ≡ Some (length bytes)
   pub total : length bytes ≡ n
   pub copy : take n share ≡ bytes
   pub last : last_kept fs ≡ some (piece PIECE x n (o - PIECE) share)
@@ -115,7 +115,7 @@ module _ (transaction total : ℕ) (bytes : List ℕ) where
   unfolding piece
   first_kind h = piece_initiate PIECE total 0 (omega arith) refl h
 
-  first_total : (piece PIECE transaction total 0 bytes).total ≡ Size total
+  first_total : (piece PIECE transaction total 0 bytes).total ≡ Some total
   unfolding piece pick
   first_total = refl
 

@@ -17,13 +17,14 @@ use Rattle.protocol.specs.declared.CommandId.{CommandId}
 use Rattle.protocol.specs.declared.CommandId.TheVariants.{Nil, WriteByIndex, ReadByIndex, WriteAllByIndex, ReadAllByIndex, WriteByName, ReadByName, FileWrite, FileRead, WriteMultipleParamByIndex, ReadMultipleParamByIndex, Abort, MaxSegmentSize}
 use Rattle.protocol.specs.declared.Segmentation.{Segmentation}
 use Rattle.protocol.specs.declared.Segmentation.TheVariants.{Expedited, Initiate, Segment, Complete}
-use Rattle.protocol.specs.declared.Access.{Access}
-use Rattle.protocol.specs.declared.Access.TheVariants.{Denied, Granted}
+use Rattle.std.specs.Prelude.{Result, Err, Ok}
+use Rattle.protocol.specs.declared.Entry.{Entry}
+use Rattle.protocol.specs.declared.AbortCode.{AbortCode}
 use Rattle.protocol.specs.declared.SdoTransferState.{SdoTransferState}
 use Rattle.protocol.specs.declared.SdoServerState.{SdoServerState}
 use Rattle.protocol.specs.declared.SdoServerState.TheVariants.{Closed, Opening, Established, SegmentedDownload, SegmentedUpload}
 use Rattle.protocol.specs.declared.Connection.{Connection}
-use Rattle.protocol.specs.Constants.{PIECE, SHARE, INVALID_COMMAND, INVALID_SEQUENCE, OUT_OF_MEMORY, LENGTH_MISFIT, LENGTH_TOO_LOW, GENERAL_ERROR}
+use Rattle.protocol.specs.Constants.{PIECE, SHARE, INVALID_COMMAND, INVALID_SEQUENCE, OUT_OF_MEMORY, LENGTH_MISFIT, LENGTH_TOO_LOW, GENERAL_ERROR, abort_number}
 use Rattle.protocol.specs.Coding.{Answer, refused, value}
 use Rattle.protocol.specs.Command.{Command, Decoding, decoded, undecodable, id_byte, total_number, undecodable_transaction}
 use Rattle.protocol.specs.DictionaryImage.{lookup, readable, writable, value_of, write_image}
@@ -165,7 +166,7 @@ module _ (c : Connection) (share image : List ℕ) (clock transaction : ℕ) (ls
   value_kind index sub v e f =
       pick_elim (ActKind c share held) (leb (length v) PIECE) _ _ (λ g. reply_kind c share image clock held image transaction v) (λ g. begin_kind index sub v e (leb-false _ _ g) f)
 
-held_value : (image : List ℕ) (m : Command) → is_read m ≡ true → (x : Access) → readable (lookup image (index_of m.payload) (sub_of m.payload)) ≡ x → ltb (length m.payload) 4 ≡ false → held_command image m ≡ held_in image x
+held_value : (image : List ℕ) (m : Command) → is_read m ≡ true → (x : Result Entry AbortCode) → readable (lookup image (index_of m.payload) (sub_of m.payload)) ≡ x → ltb (length m.payload) 4 ≡ false → held_command image m ≡ held_in image x
 unfolding held_command pick
 held_value image m q x e l = rw (q, l, e)
 
@@ -176,18 +177,18 @@ module _ (c : Connection) (share image : List ℕ) (clock : ℕ) (ls : length sh
       let p = m.payload in
       pick_elim (ActKind c share (held_command image m)) (ltb (length p) 4) _ _ (λ e. abort_kind c share image clock (held_command image m) m.header.transaction INVALID_COMMAND) (λ e. by_access (readable (lookup image (index_of p) (sub_of p))) refl e)
     where
-      by_access : (x : Access) → readable (lookup image (index_of m.payload) (sub_of m.payload)) ≡ x → ltb (length m.payload) 4 ≡ false → ActKind c share (held_command image m) (read_entry c share image clock m.header.transaction (index_of m.payload) (sub_of m.payload) x)
-      by_access (Denied code) f e = abort_kind c share image clock (held_command image m) m.header.transaction code
-      by_access (Granted d) f e = value_kind c share image clock m.header.transaction ls (held_command image m) (index_of m.payload) (sub_of m.payload) (value_of image d) (held_value image m q (Granted d) f e) (si.short (index_of m.payload) (sub_of m.payload) d f)
+      by_access : (x : Result Entry AbortCode) → readable (lookup image (index_of m.payload) (sub_of m.payload)) ≡ x → ltb (length m.payload) 4 ≡ false → ActKind c share (held_command image m) (read_entry c share image clock m.header.transaction (index_of m.payload) (sub_of m.payload) x)
+      by_access (Err code) f e = abort_kind c share image clock (held_command image m) m.header.transaction (abort_number code)
+      by_access (Ok d) f e = value_kind c share image clock m.header.transaction ls (held_command image m) (index_of m.payload) (sub_of m.payload) (value_of image d) (held_value image m q (Ok d) f e) (si.short (index_of m.payload) (sub_of m.payload) d f)
 
   -- writes begin no upload
   object_kind : (held : Option (List ℕ)) (transaction : ℕ) (index sub : ℕ) (bytes : List ℕ) → ActKind c share held (write_object c share image clock transaction c index sub bytes)
   unfolding write_object write_entry
   object_kind held transaction index sub bytes = by_access (writable (lookup image index sub) (length bytes))
     where
-      by_access : (x : Access) → ActKind c share held (write_entry c share image clock transaction c bytes x)
-      by_access (Denied code) = abort_kind c share image clock held transaction code
-      by_access (Granted e) = reply_kind c share image clock held (write_image image e bytes) transaction []
+      by_access : (x : Result Entry AbortCode) → ActKind c share held (write_entry c share image clock transaction c bytes x)
+      by_access (Err code) = abort_kind c share image clock held transaction (abort_number code)
+      by_access (Ok e) = reply_kind c share image clock held (write_image image e bytes) transaction []
 
   expedited_kind : (held : Option (List ℕ)) (transaction : ℕ) (p : List ℕ) → ActKind c share held (write_expedited c share image clock transaction p)
   unfolding write_expedited
@@ -208,9 +209,9 @@ module _ (c : Connection) (share image : List ℕ) (clock : ℕ) (ls : length sh
       let stored = splice t.offset bytes share in
       pick_elim (ActKind c share held) (ltb (t.offset + length bytes) t.total) _ _ (λ e. abort_kind c share image clock held transaction LENGTH_TOO_LOW) (λ e. by_access (writable (lookup image t.index t.sub) (length (take t.total stored))))
     where
-      by_access : (x : Access) → ActKind c share held (write_entry c (splice t.offset bytes share) image clock transaction (with_state c Established) (take t.total (splice t.offset bytes share)) x)
-      by_access (Denied code) = quiet refl (no_upload c share _ _ closed_none)
-      by_access (Granted e) = quiet refl (no_upload c share _ _ established_none)
+      by_access : (x : Result Entry AbortCode) → ActKind c share held (write_entry c (splice t.offset bytes share) image clock transaction (with_state c Established) (take t.total (splice t.offset bytes share)) x)
+      by_access (Err code) = quiet refl (no_upload c share _ _ closed_none)
+      by_access (Ok e) = quiet refl (no_upload c share _ _ established_none)
 
   download_kind : (held : Option (List ℕ)) (transaction : ℕ) (is_complete : Bool) (t : SdoTransferState) (bytes : List ℕ) → ActKind c share held (download_step c share image clock transaction is_complete t bytes)
   unfolding download_step write_segment

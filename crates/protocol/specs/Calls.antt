@@ -1,10 +1,8 @@
 -- Document 01, the table of refusals: what is common to request, tick and deadline query.
-use Rattle.std.specs.Prelude.{ℕ, Bool, ◌||◌, not, List, [], ◌∷◌, ◌++◌, length, ltb, eqb}
+use Rattle.std.specs.Prelude.{ℕ, Bool, ◌||◌, not, List, [], ◌∷◌, ◌++◌, length, ltb, eqb, Result, Ok, Err, ⊤}
 use Rattle.picks.specs.Pick.{pick}
 use Rattle.octets.specs.Octets.{splice}
 use Rattle.protocol.specs.declared.Refusal.{Refusal}
-use Rattle.protocol.specs.declared.Checked.{Checked}
-use Rattle.protocol.specs.declared.Checked.TheVariants as K
 use Rattle.protocol.specs.declared.SdoClientInfo.{SdoClientInfo}
 use Rattle.protocol.specs.declared.Connection.{Connection}
 use Rattle.protocol.specs.Constants.{ANSWER_MIN, AREA, RECORDS}
@@ -23,9 +21,9 @@ pub data Verdict : Type 0 where
   accept : Verdict
 
 -- the values of the code's answer
-abbrev pub told_checked : Checked → Verdict
-told_checked (K.Refused x) = refuse x
-told_checked K.Accepted = accept
+abbrev pub told_checked : Result ⊤ Refusal → Verdict
+told_checked (Err x) = refuse x
+told_checked (Ok u) = accept
 
 unfoldable pub verdict : List Test → Verdict
 verdict [] = accept

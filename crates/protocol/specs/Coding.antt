@@ -1,11 +1,10 @@
 -- What a call answers, and what coding into a lent buffer leaves there.
-use Rattle.std.specs.Prelude.{ℕ, List, length, ltb}
+use Rattle.std.specs.Prelude.{ℕ, List, length, ltb, Result, Ok, Err}
 use Rattle.picks.specs.Pick.{pick}
 use Rattle.octets.specs.Octets.{splice}
 use Rattle.protocol.specs.declared.Refusal.{Refusal}
 use Rattle.protocol.specs.declared.Refusal.TheVariants as N
-use Rattle.protocol.specs.declared.Written.{Written}
-use Rattle.protocol.specs.declared.Written.TheVariants as W
+use Rattle.protocol.specs.declared.BufferTooShort.{BufferTooShort}
 
 -- an answer in document 01's terms: the number of a refusal, or a value
 pub data Answer (A : Type 0) : Type 0 where
@@ -32,6 +31,6 @@ abbrev pub put : List ℕ → List ℕ → List ℕ
 put bytes buffer = pick (ltb (length buffer) (length bytes)) buffer (splice 0 bytes buffer)
 
 -- the number and the value of each case of the code's answer
-abbrev pub told_written : Written → Answer ℕ
-told_written (W.Bytes n) = value n
-told_written W.BufferTooShort = refused 1
+abbrev pub told_written : Result ℕ BufferTooShort → Answer ℕ
+told_written (Ok n) = value n
+told_written (Err e) = refused 1

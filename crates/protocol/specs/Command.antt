@@ -1,5 +1,5 @@
 -- Document 01, 'Command'. The sentence that a definition comes from stands above it.
-use Rattle.std.specs.Prelude.{ℕ, ◌+◌, ◌*◌, ◌/◌, ◌%◌, ◌<◌, ◌≡◌, Bool, true, false, List, [], ◌∷◌, ◌++◌, length, get_or, set, take, drop, ltb, eqb}
+use Rattle.std.specs.Prelude.{ℕ, ◌+◌, ◌*◌, ◌/◌, ◌%◌, ◌<◌, ◌≡◌, Bool, true, false, List, [], ◌∷◌, ◌++◌, length, get_or, set, take, drop, ltb, eqb, Option, Some, None, Result, Ok, Err}
 use Rattle.picks.specs.Pick.{pick}
 use Rattle.octets.specs.Octets.{le, le_bytes}
 use Rattle.protocol.specs.declared.CommandId.{CommandId}
@@ -7,19 +7,16 @@ use Rattle.protocol.specs.declared.CommandId.TheVariants.{Nil, WriteByIndex, Rea
 use Rattle.protocol.specs.declared.Segmentation.{Segmentation}
 use Rattle.protocol.specs.declared.Segmentation.TheVariants.{Expedited, Initiate, Segment, Complete}
 use Rattle.protocol.specs.declared.CommandLayerHeader.{CommandLayerHeader}
-use Rattle.protocol.specs.declared.DataSize.{DataSize}
-use Rattle.protocol.specs.declared.DataSize.TheVariants.{NoSize, Size}
 use Rattle.protocol.specs.declared.SdoCommand.{SdoCommand}
-use Rattle.protocol.specs.declared.IdRead.{IdRead}
-use Rattle.protocol.specs.declared.IdRead.TheVariants as I
-use Rattle.protocol.specs.declared.CommandRead.{CommandRead}
-use Rattle.protocol.specs.declared.CommandRead.TheVariants as C
+use Rattle.protocol.specs.declared.InvalidEnumValue.{InvalidEnumValue}
+use Rattle.protocol.specs.declared.CommandError.{CommandError}
+use Rattle.protocol.specs.declared.CommandError.TheVariants as C
 use Rattle.protocol.specs.Coding.{Answer, refused, value}
 
 -- a whole command, with its payload
 pub record Command : Type 0 where
   pub header : CommandLayerHeader
-  pub total : DataSize
+  pub total : Option ℕ
   pub payload : List ℕ
 
 -- the places of the flags in byte 2, each by its weight; the segmentation takes two bits
@@ -62,11 +59,11 @@ unfoldable pub known_ids : List CommandId
 known_ids = Nil ∷ WriteByIndex ∷ ReadByIndex ∷ WriteAllByIndex ∷ ReadAllByIndex ∷ WriteByName ∷ ReadByName ∷ FileWrite ∷ FileRead ∷ WriteMultipleParamByIndex ∷ ReadMultipleParamByIndex ∷ Abort ∷ MaxSegmentSize ∷ []
 
 -- the id among these whose byte it is, if any
-unfoldable pub id_among : List CommandId → ℕ → IdRead
-id_among [] b = I.InvalidEnumValue
-id_among (i ∷ is) b = pick (eqb b (id_byte i)) (I.Id i) (id_among is b)
+unfoldable pub id_among : List CommandId → ℕ → Result CommandId InvalidEnumValue
+id_among [] b = Err (record {})
+id_among (i ∷ is) b = pick (eqb b (id_byte i)) (Ok i) (id_among is b)
 
-unfoldable pub id_of : ℕ → IdRead
+unfoldable pub id_of : ℕ → Result CommandId InvalidEnumValue
 id_of b = id_among known_ids b
 
 -- the length of a command's header: 8 bytes, and "Initiate adds a 4-byte total size"
@@ -85,11 +82,11 @@ abbrev pub flags_byte : FlagPlaces → Bool → Bool → Segmentation → ℕ
 flags_byte P r a s = bit r * P.response + bit a * P.aborted + segmentation_number s * P.segmentation
 
 -- bytes 8 to 11 of an Initiate, 0 without a total; no other command has them
-abbrev pub total_number : DataSize → ℕ
-total_number NoSize = 0
-total_number (Size n) = n
+abbrev pub total_number : Option ℕ → ℕ
+total_number None = 0
+total_number (Some n) = n
 
-abbrev pub total_bytes : Segmentation → DataSize → List ℕ
+abbrev pub total_bytes : Segmentation → Option ℕ → List ℕ
 total_bytes Expedited d = []
 total_bytes Initiate d = le_bytes 4 (total_number d)
 total_bytes Segment d = []
@@ -114,11 +111,11 @@ header_of P i b =
     let flags = get_or b 2 0 in
     record { transaction = get_or b 1 0; response = eqb (flags / P.response % 2) 1; aborted = eqb (flags / P.aborted % 2) 1; segmentation = segmentation_of (flags / P.segmentation % 4); id = i; size = le (take 2 (drop 4 b)) }
 
-abbrev pub total_of : Segmentation → List ℕ → DataSize
-total_of Expedited b = NoSize
-total_of Initiate b = Size (le (take 4 (drop 8 b)))
-total_of Segment b = NoSize
-total_of Complete b = NoSize
+abbrev pub total_of : Segmentation → List ℕ → Option ℕ
+total_of Expedited b = None
+total_of Initiate b = Some (le (take 4 (drop 8 b)))
+total_of Segment b = None
+total_of Complete b = None
 
 -- "Then segment-size payload bytes; later bytes are ignored."
 abbrev pub payload_of : CommandLayerHeader → List ℕ → List ℕ
@@ -134,9 +131,9 @@ decode_with h b =
     pick (ltb (length b) n) (refused 5)
     (pick (ltb (length b) (n + h.size)) (value undecodable) (value (decoded (command_of h b))))
 
-unfoldable pub decode_id : FlagPlaces → IdRead → List ℕ → Answer Decoding
-decode_id P I.InvalidEnumValue b = value undecodable
-decode_id P (I.Id i) b = decode_with (header_of P i b) b
+unfoldable pub decode_id : FlagPlaces → Result CommandId InvalidEnumValue → List ℕ → Answer Decoding
+decode_id P (Err e) b = value undecodable
+decode_id P (Ok i) b = decode_with (header_of P i b) b
 
 unfoldable pub decode_command : FlagPlaces → List ℕ → Answer Decoding
 decode_command P b = pick (ltb (length b) 8) (refused 5) (decode_id P (id_of (get_or b 3 0)) b)
@@ -146,10 +143,10 @@ abbrev pub with_payload : SdoCommand → List ℕ → Command
 with_payload c p = record { header = c.header; total = c.total; payload = p }
 
 -- the number and the values of each case of the code's answer on the bytes b, of which the payload is a part
-abbrev pub told_command : List ℕ → CommandRead → Answer Decoding
-told_command b (C.Command c) = value (decoded (with_payload c (payload_of c.header b)))
-told_command b C.BufferTooShort = refused 5
-told_command b C.Undecodable = value undecodable
+abbrev pub told_command : List ℕ → Result SdoCommand CommandError → Answer Decoding
+told_command b (Ok c) = value (decoded (with_payload c (payload_of c.header b)))
+told_command b (Err C.BufferTooShort) = refused 5
+told_command b (Err C.Undecodable) = value undecodable
 
 -- "The answer then aborts 05040001 hex with the low four bits of byte 0 as transaction id."
 abbrev pub undecodable_transaction : List ℕ → ℕ
@@ -168,9 +165,9 @@ is_initiate Initiate = true
 is_initiate Segment = false
 is_initiate Complete = false
 
-abbrev pub is_present : DataSize → Bool
-is_present NoSize = false
-is_present (Size n) = true
+abbrev pub is_present : Option ℕ → Bool
+is_present None = false
+is_present (Some n) = true
 
 pub record WellFormed (c : Command) : Type 0 where
   pub size : c.header.size ≡ length c.payload

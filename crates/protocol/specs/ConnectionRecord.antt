@@ -1,5 +1,5 @@
 -- Document 01, 'Connection record'.
-use Rattle.std.specs.Prelude.{ℕ, Bool, true, false, ◌&&◌, ◌||◌, not, List, [], length, eqb}
+use Rattle.std.specs.Prelude.{ℕ, Bool, true, false, ◌&&◌, ◌||◌, not, List, [], length, eqb, Option, Some, None, Result, Ok, Err}
 use Rattle.picks.specs.Pick.{pick}
 use Rattle.protocol.specs.declared.ReceiveConnState.TheVariants as R
 use Rattle.protocol.specs.declared.SendConnState.TheVariants as S
@@ -8,19 +8,14 @@ use Rattle.protocol.specs.declared.CommandId.{CommandId}
 use Rattle.protocol.specs.declared.CommandId.TheVariants.{Nil, WriteByIndex, ReadByIndex, WriteAllByIndex, ReadAllByIndex, WriteByName, ReadByName, FileWrite, FileRead, WriteMultipleParamByIndex, ReadMultipleParamByIndex, Abort, MaxSegmentSize}
 use Rattle.protocol.specs.declared.Segmentation.{Segmentation}
 use Rattle.protocol.specs.declared.Segmentation.TheVariants.{Expedited, Initiate, Segment, Complete}
-use Rattle.protocol.specs.declared.DataSize.TheVariants.{NoSize}
-use Rattle.protocol.specs.declared.Deadline.TheVariants.{NoDeadline}
 use Rattle.protocol.specs.declared.SdoTransferState.{SdoTransferState}
 use Rattle.protocol.specs.declared.SdoServerState.{SdoServerState}
 use Rattle.protocol.specs.declared.SdoServerState.TheVariants.{Closed, Opening, Established, SegmentedDownload, SegmentedUpload}
 use Rattle.protocol.specs.declared.Connection.{Connection}
-use Rattle.protocol.specs.declared.Step.{Step}
-use Rattle.protocol.specs.declared.Step.TheVariants as T
+use Rattle.protocol.specs.declared.Left.{Left}
+use Rattle.protocol.specs.declared.Misfit.{Misfit}
+use Rattle.protocol.specs.declared.Refusal.{Refusal}
 use Rattle.protocol.specs.declared.SdoResponseData.{SdoResponseData}
-use Rattle.protocol.specs.declared.Handled.{Handled}
-use Rattle.protocol.specs.declared.Handled.TheVariants as D
-use Rattle.protocol.specs.declared.Resend.{Resend}
-use Rattle.protocol.specs.declared.Resend.TheVariants.{Resends, GoesOn}
 use Rattle.protocol.specs.Constants.{INVALID_COMMAND, INVALID_SEQUENCE, GENERAL_ERROR}
 use Rattle.protocol.specs.Coding.{Answer, refused, value, refusal_number}
 use Rattle.protocol.specs.SequenceHeader.{receive_mark, send_mark, next, decode_header, command_part}
@@ -43,9 +38,12 @@ pub record Served : Type 0 where
 abbrev pub told_reply : SdoResponseData → List ℕ → List ℕ → Reply
 told_reply r share image = record { header = r.header; command = with_payload r.command (body_bytes share image r.body) }
 
-abbrev pub told_handled : Handled → List ℕ → List ℕ → Served
-told_handled (D.Answered c r) share image = record { connection = c; share = share; image = image; said = value (told_reply r share image) }
-told_handled (D.Refused c x) share image = record { connection = c; share = share; image = image; said = refused (refusal_number x) }
+abbrev pub told_said : Result SdoResponseData Refusal → List ℕ → List ℕ → Answer Reply
+told_said (Ok r) share image = value (told_reply r share image)
+told_said (Err x) share image = refused (refusal_number x)
+
+abbrev pub told_handled : Left (Result SdoResponseData Refusal) → List ℕ → List ℕ → Served
+told_handled l share image = record { connection = l.connection; share = share; image = image; said = told_said l.said share image }
 
 -- before the sequence step: "Receive mark 3 in an upload with a stored piece resends it under send mark 3, before any number is looked at, and changes nothing."; "on receive mark 3, to a resend …, the receive number is the request's send number"
 pub data Before : Type 0 where
@@ -53,9 +51,9 @@ pub data Before : Type 0 where
   goes_on : Before
 
 -- the values of the code's answer, whose piece stands in the share
-abbrev pub told_resend : Resend → List ℕ → List ℕ → Before
-told_resend (Resends r) share image = resends (told_reply r share image)
-told_resend GoesOn share image = goes_on
+abbrev pub told_resend : Option SdoResponseData → List ℕ → List ℕ → Before
+told_resend (Some r) share image = resends (told_reply r share image)
+told_resend None share image = goes_on
 
 abbrev pub resent : Connection → List ℕ → SequenceLayerHeader → SdoTransferState → Reply
 resent c share h t = record { header = record { receive = h.send; rcon = R.ConnectionValid; send = c.send; scon = S.ConnectionValidAckRequest }; command = stored_piece t share }
@@ -76,9 +74,12 @@ pub data Stepped : Type 0 where
   misfit : Connection → Stepped
 
 -- the values of the code's answer
-abbrev pub told_step : Step → Stepped
-told_step (T.Stepped c r) = stepped c r
-told_step (T.Misfit c) = misfit c
+abbrev pub step_of : Connection → Result SequenceLayerHeader Misfit → Stepped
+step_of c (Ok r) = stepped c r
+step_of c (Err e) = misfit c
+
+abbrev pub told_step : Left (Result SequenceLayerHeader Misfit) → Stepped
+told_step l = step_of l.connection l.said
 
 abbrev pub answer_marked : Connection → SequenceLayerHeader
 answer_marked c = record { receive = c.receive; rcon = R.ConnectionValid; send = c.send; scon = S.ConnectionValid }
@@ -98,7 +99,7 @@ opening_step c h =
 
 -- "A piece acknowledged (next number, receive number ours) … loses deadline and stored piece."
 abbrev pub acknowledged : SdoTransferState → SdoTransferState
-acknowledged t = record { transaction = t.transaction; total = t.total; offset = t.offset; index = t.index; sub = t.sub; deadline = NoDeadline; retries = 0; stored = false }
+acknowledged t = record { transaction = t.transaction; total = t.total; offset = t.offset; index = t.index; sub = t.sub; deadline = None; retries = 0; stored = false }
 
 unfoldable pub acknowledge : Bool → SdoServerState → SdoServerState
 acknowledge ours Closed = Closed
@@ -125,7 +126,7 @@ sequence_step c h = step_in c.state c h
 
 -- a Nil command with no payload: "default header", with or without the response and aborted bits
 abbrev pub nil : Bool → Bool → Command
-nil response aborted = record { header = record { transaction = 0; response = response; aborted = aborted; segmentation = Expedited; id = Nil; size = 0 }; total = NoSize; payload = [] }
+nil response aborted = record { header = record { transaction = 0; response = response; aborted = aborted; segmentation = Expedited; id = Nil; size = 0 }; total = None; payload = [] }
 
 module _ (c : Connection) (share image : List ℕ) (clock : ℕ) where
   -- at dispatch; "The other known ids, at dispatch, are answered as Abort is (added)."

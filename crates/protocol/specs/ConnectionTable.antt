@@ -1,5 +1,5 @@
 -- Document 01, 'Connection table'.
-use Rattle.std.specs.Prelude.{ℕ, ◌*◌, ◌-◌, ◌%◌, max, Bool, true, false, ◌&&◌, ◌||◌, not, length, get_or, set, take, drop, ltb, leb, eqb}
+use Rattle.std.specs.Prelude.{ℕ, ◌*◌, ◌-◌, ◌%◌, max, Bool, true, false, ◌&&◌, ◌||◌, not, length, get_or, set, take, drop, ltb, leb, eqb, Option, Some, None}
 use mathlib.Core.List.{List, [], ◌∷◌, ◌++◌, map, tail}
 use Rattle.picks.specs.Pick.{pick, first, fold, every, count, keep}
 use Rattle.octets.specs.Octets.{splice}
@@ -7,14 +7,12 @@ use Rattle.protocol.specs.declared.ReceiveConnState.TheVariants as R
 use Rattle.protocol.specs.declared.SendConnState.TheVariants as S
 use Rattle.protocol.specs.declared.SdoClientInfo.{SdoClientInfo}
 use Rattle.protocol.specs.declared.SdoClientInfo.TheVariants.{Asnd, Udp}
-use Rattle.protocol.specs.declared.Deadline.{Deadline}
-use Rattle.protocol.specs.declared.Deadline.TheVariants.{NoDeadline, At}
 use Rattle.protocol.specs.declared.SdoTransferState.{SdoTransferState}
 use Rattle.protocol.specs.declared.SdoServerState.{SdoServerState}
 use Rattle.protocol.specs.declared.SdoServerState.TheVariants.{Closed, Opening, Established, SegmentedDownload, SegmentedUpload}
 use Rattle.protocol.specs.declared.Connection.{Connection}
-use Rattle.protocol.specs.declared.RecordTicked.{RecordTicked}
-use Rattle.protocol.specs.declared.RecordTicked.TheVariants as K
+use Rattle.protocol.specs.declared.Left.{Left}
+use Rattle.protocol.specs.declared.SdoResponseData.{SdoResponseData}
 use Rattle.protocol.specs.Constants.{PIECE, SHARE, RECORDS, FIRST_MAX, TIMED_OUT}
 use Rattle.protocol.specs.TransferRecord.{with_state, reset, abort_command, stored_piece, deadline_after}
 use Rattle.protocol.specs.ConnectionRecord.{Reply, told_reply}
@@ -79,9 +77,9 @@ unfoldable pub areas_once : List Connection → Bool
 areas_once t = every (λ r. ltb r.area RECORDS && eqb (count (has_area r.area) t) 1) t
 
 -- "an upload has total 1,453 to 8,192, offset a positive multiple of 1,452 below total, deadline and stored piece both there or both absent (retries then 0); a download has total 1 to 8,192, offset at most the larger of total and 1,480, and a deadline"
-abbrev pub has_deadline : Deadline → Bool
-has_deadline NoDeadline = false
-has_deadline (At n) = true
+abbrev pub has_deadline : Option ℕ → Bool
+has_deadline None = false
+has_deadline (Some n) = true
 
 unfoldable pub sound_upload : SdoTransferState → Bool
 sound_upload t =
@@ -145,16 +143,16 @@ abbrev pub with_share : List ℕ → ℕ → List ℕ → List ℕ
 with_share area n share = splice (SHARE * n) share area
 
 -- when a record is due, and the place of the first that is; "Tick answers the first due client in that order"
-abbrev pub transfer_deadline : SdoServerState → Deadline
-transfer_deadline Closed = NoDeadline
-transfer_deadline Opening = NoDeadline
-transfer_deadline Established = NoDeadline
+abbrev pub transfer_deadline : SdoServerState → Option ℕ
+transfer_deadline Closed = None
+transfer_deadline Opening = None
+transfer_deadline Established = None
 transfer_deadline (SegmentedDownload t) = t.deadline
 transfer_deadline (SegmentedUpload t) = t.deadline
 
-abbrev pub is_past : ℕ → Deadline → Bool
-is_past clock NoDeadline = false
-is_past clock (At n) = leb n clock
+abbrev pub is_past : ℕ → Option ℕ → Bool
+is_past clock None = false
+is_past clock (Some n) = leb n clock
 
 abbrev pub is_due : ℕ → Connection → Bool
 is_due clock r = r.used && is_past clock (transfer_deadline r.state)
@@ -163,16 +161,16 @@ unfoldable pub chosen : List Connection → ℕ → ℕ
 chosen t clock = first (is_due clock) t
 
 -- the earlier of two deadlines, and the earliest of a table
-abbrev pub earlier : Deadline → Deadline → Deadline
-earlier NoDeadline d = d
-earlier (At n) NoDeadline = At n
-earlier (At n) (At m) = At (pick (ltb m n) m n)
+abbrev pub earlier : Option ℕ → Option ℕ → Option ℕ
+earlier None d = d
+earlier (Some n) None = Some n
+earlier (Some n) (Some m) = Some (pick (ltb m n) m n)
 
-abbrev pub deadline_of : Connection → Deadline
-deadline_of r = pick r.used (transfer_deadline r.state) NoDeadline
+abbrev pub deadline_of : Connection → Option ℕ
+deadline_of r = pick r.used (transfer_deadline r.state) None
 
-unfoldable pub earliest : List Connection → Deadline
-earliest t = fold (λ d r. earlier d (deadline_of r)) NoDeadline t
+unfoldable pub earliest : List Connection → Option ℕ
+earliest t = fold (λ d r. earlier d (deadline_of r)) None t
 
 -- what a tick does to a due record: "With retries left, an upload's stored piece is resent under send mark 3 with one retry less and a new deadline; otherwise abort 05040000."
 pub data Ticking : Type 0 where
@@ -180,16 +178,16 @@ pub data Ticking : Type 0 where
   ticks : Connection → Reply → Ticking
 
 -- the values of the code's answer, whose piece stands in the share
-abbrev pub told_record_ticked : RecordTicked → List ℕ → List ℕ → Ticking
-told_record_ticked K.Nothing share image = idle
-told_record_ticked (K.Answered c r) share image = ticks c (told_reply r share image)
+abbrev pub told_record_ticked : Option (Left SdoResponseData) → List ℕ → List ℕ → Ticking
+told_record_ticked None share image = idle
+told_record_ticked (Some l) share image = ticks l.connection (told_reply l.said share image)
 
 abbrev pub times_out : Connection → SdoTransferState → Ticking
 times_out r t =
     ticks (reset r) (record { header = record { receive = 63; rcon = R.ConnectionValid; send = 0; scon = S.NoConnection }; command = abort_command t.transaction TIMED_OUT })
 
 abbrev pub retried : SdoTransferState → List ℕ → ℕ → SdoTransferState
-retried t image clock = record { transaction = t.transaction; total = t.total; offset = t.offset; index = t.index; sub = t.sub; deadline = At (deadline_after image clock); retries = t.retries - 1; stored = t.stored }
+retried t image clock = record { transaction = t.transaction; total = t.total; offset = t.offset; index = t.index; sub = t.sub; deadline = Some (deadline_after image clock); retries = t.retries - 1; stored = t.stored }
 
 unfoldable pub tick_upload : Connection → List ℕ → List ℕ → ℕ → SdoTransferState → Ticking
 tick_upload r share image clock t =

@@ -1,5 +1,7 @@
 -- Document 01's sizes, limits and abort codes, each named once.
 use Rattle.std.specs.Prelude.{ℕ, ◌+◌, ◌*◌, ◌-◌}
+use Rattle.protocol.specs.declared.AbortCode.{AbortCode}
+use Rattle.protocol.specs.declared.AbortCode.TheVariants as A
 
 -- "cut into pieces of 1,452", "each record's own 8,192 bytes", "a lent row of eight connection records"
 unfoldable pub PIECE : ℕ
@@ -88,3 +90,16 @@ NO_SUB_INDEX = 0x06090011
 
 abbrev pub GENERAL_ERROR : ℕ
 GENERAL_ERROR = 0x08000000
+
+-- the numbers of the code's abort codes
+abbrev pub abort_number : AbortCode → ℕ
+abort_number A.TimedOut = TIMED_OUT
+abort_number A.InvalidCommand = INVALID_COMMAND
+abort_number A.InvalidSequence = INVALID_SEQUENCE
+abort_number A.OutOfMemory = OUT_OF_MEMORY
+abort_number A.ReadOnly = READ_ONLY
+abort_number A.NoObject = NO_OBJECT
+abort_number A.LengthMisfit = LENGTH_MISFIT
+abort_number A.LengthTooLow = LENGTH_TOO_LOW
+abort_number A.NoSubIndex = NO_SUB_INDEX
+abort_number A.GeneralError = GENERAL_ERROR

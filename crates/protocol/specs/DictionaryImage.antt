@@ -1,13 +1,13 @@
 -- Document 01, 'Dictionary image'.
-use Rattle.std.specs.Prelude.{ℕ, zero, suc, ◌+◌, ◌*◌, ◌/◌, ◌%◌, Bool, false, ◌&&◌, ◌||◌, not, List, [], ◌∷◌, length, get_or, take, drop, ltb, leb, eqb}
+use Rattle.std.specs.Prelude.{ℕ, zero, suc, ◌+◌, ◌*◌, ◌/◌, ◌%◌, Bool, false, ◌&&◌, ◌||◌, not, List, [], ◌∷◌, length, get_or, take, drop, ltb, leb, eqb, Result, Ok, Err}
 use Rattle.picks.specs.Pick.{pick}
 use Rattle.octets.specs.Octets.{le, le_bytes, splice}
 use Rattle.protocol.specs.declared.Entry.{Entry}
-use Rattle.protocol.specs.declared.Lookup.{Lookup}
-use Rattle.protocol.specs.declared.Lookup.TheVariants.{NoObject, NoSubIndex, Found}
-use Rattle.protocol.specs.declared.Access.{Access}
-use Rattle.protocol.specs.declared.Access.TheVariants.{Denied, Granted}
-use Rattle.protocol.specs.Constants.{CAPACITY_MAX, IMAGE_MAX, TIMEOUT_INDEX, RETRIES_INDEX, DEFAULT_TIMEOUT, DEFAULT_RETRIES, NO_OBJECT, NO_SUB_INDEX, LENGTH_TOO_LOW, LENGTH_MISFIT, READ_ONLY}
+use Rattle.protocol.specs.declared.LookupError.{LookupError}
+use Rattle.protocol.specs.declared.LookupError.TheVariants.{NoObject, NoSubIndex}
+use Rattle.protocol.specs.declared.AbortCode.{AbortCode}
+use Rattle.protocol.specs.declared.AbortCode.TheVariants as A
+use Rattle.protocol.specs.Constants.{CAPACITY_MAX, IMAGE_MAX, TIMEOUT_INDEX, RETRIES_INDEX, DEFAULT_TIMEOUT, DEFAULT_RETRIES}
 
 -- "Contents first: u16 count; per entry index u16, sub u8, flags u8 (1 variable length, 2 read-only), body offset u32, capacity u16 (1 to 8,192), length u16."
 abbrev pub entry_count : List ℕ → ℕ
@@ -56,11 +56,11 @@ sound_image image =
 abbrev pub is_at : ℕ → ℕ → Entry → Bool
 is_at index sub e = eqb e.index index && eqb e.sub sub
 
-unfoldable pub lookup_in : List Entry → ℕ → ℕ → Bool → Lookup
-lookup_in [] index sub seen = pick seen NoSubIndex NoObject
-lookup_in (e ∷ es) index sub seen = pick (is_at index sub e) (Found e) (lookup_in es index sub (seen || eqb e.index index))
+unfoldable pub lookup_in : List Entry → ℕ → ℕ → Bool → Result Entry LookupError
+lookup_in [] index sub seen = pick seen (Err NoSubIndex) (Err NoObject)
+lookup_in (e ∷ es) index sub seen = pick (is_at index sub e) (Ok e) (lookup_in es index sub (seen || eqb e.index index))
 
-unfoldable pub lookup : List ℕ → ℕ → ℕ → Lookup
+unfoldable pub lookup : List ℕ → ℕ → ℕ → Result Entry LookupError
 lookup image index sub = lookup_in (entries image) index sub false
 
 -- the value held: "its body's first length bytes"
@@ -68,16 +68,15 @@ abbrev pub value_of : List ℕ → Entry → List ℕ
 value_of image e = take e.length (drop e.body image)
 
 -- a read needs the object and the sub-index
-abbrev pub readable : Lookup → Access
-readable NoObject = Denied NO_OBJECT
-readable NoSubIndex = Denied NO_SUB_INDEX
-readable (Found e) = Granted e
+abbrev pub readable : Result Entry LookupError → Result Entry AbortCode
+readable (Err NoObject) = Err A.NoObject
+readable (Err NoSubIndex) = Err A.NoSubIndex
+readable (Ok e) = Ok e
 
 -- "Each counts only if 4 bytes and not variable; otherwise 15,000 and 2."
-unfoldable pub parameter_of : List ℕ → ℕ → Lookup → ℕ
-parameter_of image default NoObject = default
-parameter_of image default NoSubIndex = default
-parameter_of image default (Found e) = pick (eqb e.length 4 && not (is_variable e)) (le (value_of image e)) default
+unfoldable pub parameter_of : List ℕ → ℕ → Result Entry LookupError → ℕ
+parameter_of image default (Err missing) = default
+parameter_of image default (Ok e) = pick (eqb e.length 4 && not (is_variable e)) (le (value_of image e)) default
 
 -- "Timeout is 1300 hex/0 in milliseconds; OD_IDX_SDO_RETRIES is taken as 1302 hex, sub 0."
 unfoldable pub timeout_of : List ℕ → ℕ
@@ -87,12 +86,12 @@ unfoldable pub retries_of : List ℕ → ℕ
 retries_of image = parameter_of image DEFAULT_RETRIES (lookup image RETRIES_INDEX 0)
 
 -- "A write checks: object (06020000), sub-index (06090011), fixed entry and short data (06070013), any other misfit or above capacity (06070010), read-only (06010002)."
-unfoldable pub writable : Lookup → ℕ → Access
-writable NoObject n = Denied NO_OBJECT
-writable NoSubIndex n = Denied NO_SUB_INDEX
-writable (Found e) n =
-    pick (not (is_variable e) && ltb n e.capacity) (Denied LENGTH_TOO_LOW)
-    (pick (ltb e.capacity n) (Denied LENGTH_MISFIT) (pick (is_read_only e) (Denied READ_ONLY) (Granted e)))
+unfoldable pub writable : Result Entry LookupError → ℕ → Result Entry AbortCode
+writable (Err NoObject) n = Err A.NoObject
+writable (Err NoSubIndex) n = Err A.NoSubIndex
+writable (Ok e) n =
+    pick (not (is_variable e) && ltb n e.capacity) (Err A.LengthTooLow)
+    (pick (ltb e.capacity n) (Err A.LengthMisfit) (pick (is_read_only e) (Err A.ReadOnly) (Ok e)))
 
 -- "It changes only the data's bytes and the length."
 unfoldable pub write_image : List ℕ → Entry → List ℕ → List ℕ

@@ -1,10 +1,9 @@
 -- Demand 3, the claim: "every finished upload in the series spells the value held when it began".
-use Rattle.std.specs.Prelude.{ℕ, ◌≡◌, Bool, true, false, ◌&&◌, not, List, [], ◌∷◌, ◌++◌, length, eqb}
+use Rattle.std.specs.Prelude.{ℕ, ◌≡◌, Bool, true, false, ◌&&◌, not, List, [], ◌∷◌, ◌++◌, length, eqb, Some}
 use Rattle.std.proofs.Math.Option.{Option, none, some}
 use Rattle.picks.specs.Pick.{pick}
 use Rattle.protocol.specs.declared.SequenceLayerHeader.{SequenceLayerHeader}
 use Rattle.protocol.specs.declared.Segmentation.{Segmentation}
-use Rattle.protocol.specs.declared.DataSize.TheVariants.{Size}
 use Rattle.protocol.specs.declared.SdoClientInfo.{SdoClientInfo}
 use Rattle.protocol.specs.Coding.{Answer, refused, value}
 use Rattle.protocol.specs.SequenceHeader.{send_mark, decode_header, command_part}
@@ -78,7 +77,7 @@ pub record Finishes (k : Frame) (older : List Frame) : Type 0 where
   pub bytes : List ℕ
   pub spelled : spell older k.command.payload ≡ some (record { initiate = initiate; bytes = bytes })
   pub held : initiate.held ≡ some bytes
-  pub size : initiate.command.total ≡ Size (length bytes)
+  pub size : initiate.command.total ≡ Some (length bytes)
 
 -- "each dropped frame repeats the command of the last kept one"
 pub record Spells (k : Frame) (older : List Frame) : Type 0 where

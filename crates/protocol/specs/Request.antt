@@ -1,11 +1,11 @@
 -- Document 01: a request.
-use Rattle.std.specs.Prelude.{ℕ, ◌&&◌, not, List, [], ◌∷◌, length, ltb, eqb}
+use Rattle.std.specs.Prelude.{ℕ, ◌&&◌, not, List, [], ◌∷◌, length, ltb, eqb, Result, Ok, Err}
 use Rattle.picks.specs.Pick.{pick}
 use Rattle.octets.specs.Octets.{splice}
+use Rattle.protocol.specs.declared.Refusal.{Refusal}
 use Rattle.protocol.specs.declared.Refusal.TheVariants as N
-use Rattle.protocol.specs.declared.Outcome.{Outcome}
-use Rattle.protocol.specs.declared.Outcome.TheVariants as O
-use Rattle.protocol.specs.declared.Requested.{Requested}
+use Rattle.protocol.specs.declared.Answered.{Answered}
+use Rattle.protocol.specs.declared.Called as L
 use Rattle.protocol.specs.declared.SdoClientInfo.{SdoClientInfo}
 use Rattle.protocol.specs.declared.Connection.{Connection}
 use Rattle.protocol.specs.Constants.{REQUEST_MAX, CLOCK_MAX}
@@ -48,10 +48,10 @@ module _ (client : SdoClientInfo) (clock : ℕ) (request image answer : List ℕ
   request_of = on_verdict (verdict request_tests)
 
 -- the number and the values of each case of the code's answer
-abbrev pub told_outcome : Outcome → Answer To
-told_outcome (O.Refused x) = refused (refusal_number x)
-told_outcome (O.Answered c n) = value (record { client = c; size = n })
+abbrev pub told_outcome : Result Answered Refusal → Answer To
+told_outcome (Err x) = refused (refusal_number x)
+told_outcome (Ok a) = value (record { client = a.client; size = a.length })
 
 -- what the code returns, with all that was lent to it as it is left
-abbrev pub told_requested : Requested → List ℕ → List ℕ → List ℕ → Called To
+abbrev pub told_requested : L.Called Answered → List ℕ → List ℕ → List ℕ → Called To
 told_requested r answer area image = record { returned = told_outcome r.outcome; answer = answer; table = r.table; area = area; image = image }

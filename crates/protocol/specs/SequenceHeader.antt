@@ -1,13 +1,12 @@
 -- Document 01, 'Sequence header'. The sentence that a definition comes from stands above it.
-use Rattle.std.specs.Prelude.{ℕ, ◌+◌, ◌*◌, ◌/◌, ◌%◌, List, [], ◌∷◌, length, get_or, drop, ltb, eqb}
+use Rattle.std.specs.Prelude.{ℕ, ◌+◌, ◌*◌, ◌/◌, ◌%◌, List, [], ◌∷◌, length, get_or, drop, ltb, eqb, Result, Ok, Err}
 use Rattle.picks.specs.Pick.{pick}
 use Rattle.protocol.specs.declared.ReceiveConnState.{ReceiveConnState}
 use Rattle.protocol.specs.declared.ReceiveConnState.TheVariants as R
 use Rattle.protocol.specs.declared.SendConnState.{SendConnState}
 use Rattle.protocol.specs.declared.SendConnState.TheVariants as S
 use Rattle.protocol.specs.declared.SequenceLayerHeader.{SequenceLayerHeader}
-use Rattle.protocol.specs.declared.HeaderRead.{HeaderRead}
-use Rattle.protocol.specs.declared.HeaderRead.TheVariants as H
+use Rattle.protocol.specs.declared.BufferTooShort.{BufferTooShort}
 use Rattle.protocol.specs.Coding.{Answer, refused, value}
 
 -- "Receive marks: 0 none, 1 initialization, 2 valid, 3 error response."
@@ -44,9 +43,9 @@ decode_header b =
     (value (record { receive = b₀ / 4 % 64; rcon = receive_mark_of (b₀ % 4); send = b₁ / 4 % 64; scon = send_mark_of (b₁ % 4) }))
 
 -- the number and the value of each case of the code's answer
-abbrev pub told_header : HeaderRead → Answer SequenceLayerHeader
-told_header (H.Header h) = value h
-told_header H.BufferTooShort = refused 5
+abbrev pub told_header : Result SequenceLayerHeader BufferTooShort → Answer SequenceLayerHeader
+told_header (Ok h) = value h
+told_header (Err e) = refused 5
 
 -- "The next number adds one with wrap in a u8, then takes the remainder by 64."
 unfoldable pub next : ℕ → ℕ

@@ -1,11 +1,11 @@
 -- Demand 3, the series: calls, what each leaves and sends, and the value held.
-use Rattle.std.specs.Prelude.{ℕ, Bool, ◌&&◌, not, List, [], ◌∷◌, ◌++◌, length, take, ltb, eqb}
+use Rattle.std.specs.Prelude.{ℕ, Bool, ◌&&◌, not, List, [], ◌∷◌, ◌++◌, length, take, ltb, eqb, Result, Ok, Err}
 use Rattle.std.proofs.Math.Option.{Option, none, some}
 use Rattle.picks.specs.Pick.{pick}
 use Rattle.protocol.specs.declared.SdoClientInfo.{SdoClientInfo}
 use Rattle.protocol.specs.declared.Connection.{Connection}
-use Rattle.protocol.specs.declared.Access.{Access}
-use Rattle.protocol.specs.declared.Access.TheVariants.{Denied, Granted}
+use Rattle.protocol.specs.declared.Entry.{Entry}
+use Rattle.protocol.specs.declared.AbortCode.{AbortCode}
 use Rattle.protocol.specs.Coding.{Answer, refused, value}
 use Rattle.protocol.specs.SequenceHeader.{command_part}
 use Rattle.protocol.specs.Command.{Command, Decoding, decoded, undecodable, flag_places, id_byte, decode_command}
@@ -32,9 +32,9 @@ abbrev pub start : List ℕ → Server
 start area = record { table = empty_table; area = area }
 
 -- "The value held is that of the entry named by the request that the Initiate answered: its body's first length bytes, in the image that call was lent."
-abbrev pub held_in : List ℕ → Access → Option (List ℕ)
-held_in image (Denied code) = none
-held_in image (Granted e) = some (value_of image e)
+abbrev pub held_in : List ℕ → Result Entry AbortCode → Option (List ℕ)
+held_in image (Err code) = none
+held_in image (Ok e) = some (value_of image e)
 
 abbrev pub is_read : Command → Bool
 is_read m = eqb (id_byte m.header.id) 2

@@ -1,10 +1,10 @@
 -- Document 01: a tick. "Tick can return 1 to 4". It changes neither area nor image.
-use Rattle.std.specs.Prelude.{ℕ, ◌&&◌, not, List, [], ◌∷◌, length, get_or, set, ltb}
+use Rattle.std.specs.Prelude.{ℕ, ◌&&◌, not, List, [], ◌∷◌, length, get_or, set, ltb, Option, Some, None, Result, Ok, Err}
 use Rattle.octets.specs.Octets.{splice}
 use Rattle.protocol.specs.declared.Refusal.TheVariants as N
-use Rattle.protocol.specs.declared.Ticked.{Ticked}
-use Rattle.protocol.specs.declared.Ticked.TheVariants as K
-use Rattle.protocol.specs.declared.TickedRow.{TickedRow}
+use Rattle.protocol.specs.declared.Refusal.{Refusal}
+use Rattle.protocol.specs.declared.Answered.{Answered}
+use Rattle.protocol.specs.declared.Called as L
 use Rattle.protocol.specs.declared.Connection.{Connection}
 use Rattle.protocol.specs.Constants.{CLOCK_MAX}
 use Rattle.protocol.specs.Coding.{Answer, refused, value, refusal_number}
@@ -46,11 +46,11 @@ module _ (clock : ℕ) (image answer : List ℕ) (table : List Connection) (area
   tick_of = on_tick_verdict (verdict tick_tests)
 
 -- the number and the values of each case of the code's answer
-abbrev pub told_ticked : Ticked → Answer Told
-told_ticked (K.Refused x) = refused (refusal_number x)
-told_ticked K.Nothing = value nobody
-told_ticked (K.Answered c n) = value (somebody (record { client = c; size = n }))
+abbrev pub told_ticked : Result (Option Answered) Refusal → Answer Told
+told_ticked (Err x) = refused (refusal_number x)
+told_ticked (Ok None) = value nobody
+told_ticked (Ok (Some a)) = value (somebody (record { client = a.client; size = a.length }))
 
 -- what the code returns, with all that was lent to it as it is left
-abbrev pub told_ticked_row : TickedRow → List ℕ → List ℕ → List ℕ → Called Told
+abbrev pub told_ticked_row : L.Called (Option Answered) → List ℕ → List ℕ → List ℕ → Called Told
 told_ticked_row r answer area image = record { returned = told_ticked r.outcome; answer = answer; table = r.table; area = area; image = image }

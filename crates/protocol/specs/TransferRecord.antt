@@ -1,12 +1,10 @@
 -- Document 01, 'Transfer record'.
-use Rattle.std.specs.Prelude.{ℕ, ◌+◌, ◌*◌, ◌-◌, min, Bool, true, false, List, [], ◌++◌, length, get_or, take, drop, ltb, leb, eqb}
+use Rattle.std.specs.Prelude.{ℕ, ◌+◌, ◌*◌, ◌-◌, min, Bool, true, false, List, [], ◌++◌, length, get_or, take, drop, ltb, leb, eqb, Some, None, Result, Ok, Err}
 use Rattle.picks.specs.Pick.{pick}
 use Rattle.octets.specs.Octets.{le, le_bytes, splice}
 use Rattle.protocol.specs.declared.CommandId.TheVariants.{Nil, ReadByIndex}
 use Rattle.protocol.specs.declared.Segmentation.{Segmentation}
 use Rattle.protocol.specs.declared.Segmentation.TheVariants.{Expedited, Initiate, Segment, Complete}
-use Rattle.protocol.specs.declared.DataSize.TheVariants.{NoSize, Size}
-use Rattle.protocol.specs.declared.Deadline.TheVariants.{NoDeadline, At}
 use Rattle.protocol.specs.declared.SdoTransferState.{SdoTransferState}
 use Rattle.protocol.specs.declared.SdoServerState.{SdoServerState}
 use Rattle.protocol.specs.declared.SdoServerState.TheVariants.{Closed, Opening, Established, SegmentedDownload, SegmentedUpload}
@@ -14,9 +12,9 @@ use Rattle.protocol.specs.declared.Connection.{Connection}
 use Rattle.protocol.specs.declared.Body.{Body}
 use Rattle.protocol.specs.declared.Body.TheVariants as B
 use Rattle.protocol.specs.declared.Action.{Action}
-use Rattle.protocol.specs.declared.Access.{Access}
-use Rattle.protocol.specs.declared.Access.TheVariants.{Denied, Granted}
-use Rattle.protocol.specs.Constants.{PIECE, SHARE, CLOCK_MAX, OFFSET_MAX, INVALID_COMMAND, INVALID_SEQUENCE, OUT_OF_MEMORY, LENGTH_MISFIT, LENGTH_TOO_LOW, GENERAL_ERROR}
+use Rattle.protocol.specs.declared.Entry.{Entry}
+use Rattle.protocol.specs.declared.AbortCode.{AbortCode}
+use Rattle.protocol.specs.Constants.{PIECE, SHARE, CLOCK_MAX, OFFSET_MAX, abort_number, INVALID_COMMAND, INVALID_SEQUENCE, OUT_OF_MEMORY, LENGTH_MISFIT, LENGTH_TOO_LOW, GENERAL_ERROR}
 use Rattle.protocol.specs.Command.{Command, with_payload}
 use Rattle.protocol.specs.DictionaryImage.{lookup, value_of, readable, writable, write_image, timeout_of, retries_of}
 
@@ -59,11 +57,11 @@ told_action a share image = record { connection = a.connection; share = share; i
 
 -- "answered Expedited under id Nil"
 abbrev pub reply : ℕ → List ℕ → Command
-reply transaction p = record { header = record { transaction = transaction; response = true; aborted = false; segmentation = Expedited; id = Nil; size = length p }; total = NoSize; payload = p }
+reply transaction p = record { header = record { transaction = transaction; response = true; aborted = false; segmentation = Expedited; id = Nil; size = length p }; total = None; payload = p }
 
 -- an abort of ours; "An abort closes." "Abort resets both"
 abbrev pub abort_command : ℕ → ℕ → Command
-abort_command transaction code = record { header = record { transaction = transaction; response = true; aborted = true; segmentation = Expedited; id = Nil; size = 4 }; total = NoSize; payload = le_bytes 4 code }
+abort_command transaction code = record { header = record { transaction = transaction; response = true; aborted = true; segmentation = Expedited; id = Nil; size = 4 }; total = None; payload = le_bytes 4 code }
 
 abbrev pub reset : Connection → Connection
 reset c = moved c 0 63 Closed
@@ -86,7 +84,7 @@ piece_kind size total offset =
 unfoldable pub piece : ℕ → ℕ → ℕ → ℕ → List ℕ → Command
 piece size transaction total offset bytes =
     let n = piece_length size total offset in
-    record { header = record { transaction = transaction; response = true; aborted = false; segmentation = piece_kind size total offset; id = ReadByIndex; size = n }; total = pick (eqb offset 0) (Size total) NoSize; payload = take n (drop offset bytes) }
+    record { header = record { transaction = transaction; response = true; aborted = false; segmentation = piece_kind size total offset; id = ReadByIndex; size = n }; total = pick (eqb offset 0) (Some total) None; payload = take n (drop offset bytes) }
 
 abbrev pub next_piece : SdoTransferState → List ℕ → Command
 next_piece t bytes = piece PIECE t.transaction t.total t.offset bytes
@@ -101,7 +99,7 @@ deadline_after image clock = min clock CLOCK_MAX + timeout_of image * 1000
 
 -- "Each piece but Complete sets deadline to clock plus timeout times 1,000, the retries, and itself as stored piece."
 abbrev pub after_piece : SdoTransferState → List ℕ → ℕ → SdoTransferState
-after_piece t image clock = record { transaction = t.transaction; total = t.total; offset = t.offset + piece_length PIECE t.total t.offset; index = t.index; sub = t.sub; deadline = At (deadline_after image clock); retries = retries_of image; stored = true }
+after_piece t image clock = record { transaction = t.transaction; total = t.total; offset = t.offset + piece_length PIECE t.total t.offset; index = t.index; sub = t.sub; deadline = Some (deadline_after image clock); retries = retries_of image; stored = true }
 
 abbrev pub is_last : SdoTransferState → Bool
 is_last t = leb t.total (t.offset + piece_length PIECE t.total t.offset)
@@ -123,15 +121,15 @@ data_of p = drop 4 p
 module _ (c : Connection) (share image : List ℕ) (clock transaction : ℕ) where
   -- "A value up to 1,452 bytes is answered Expedited under id Nil. A longer one is copied into the client's area and cut into pieces"
   abbrev pub new_upload : ℕ → ℕ → ℕ → SdoTransferState
-  new_upload total index sub = record { transaction = transaction; total = total; offset = 0; index = index; sub = sub; deadline = NoDeadline; retries = 0; stored = false }
+  new_upload total index sub = record { transaction = transaction; total = total; offset = 0; index = index; sub = sub; deadline = None; retries = 0; stored = false }
 
   unfoldable pub read_value : ℕ → ℕ → List ℕ → Acted
   read_value index sub value =
       pick (leb (length value) PIECE) (replies c share image transaction value) (advance c (splice 0 value share) image clock (new_upload (length value) index sub))
 
-  unfoldable pub read_entry : ℕ → ℕ → Access → Acted
-  read_entry index sub (Denied code) = aborts c share image transaction code
-  read_entry index sub (Granted e) = read_value index sub (value_of image e)
+  unfoldable pub read_entry : ℕ → ℕ → Result Entry AbortCode → Acted
+  read_entry index sub (Err code) = aborts c share image transaction (abort_number code)
+  read_entry index sub (Ok e) = read_value index sub (value_of image e)
 
   -- "under 4 payload bytes abort 05040001 before any other check"
   unfoldable pub read_by_index : List ℕ → Acted
@@ -139,9 +137,9 @@ module _ (c : Connection) (share image : List ℕ) (clock transaction : ℕ) whe
       pick (ltb (length p) 4) (aborts c share image transaction INVALID_COMMAND) (read_entry (index_of p) (sub_of p) (readable (lookup image (index_of p) (sub_of p))))
 
   -- a write that its checks allow, or their abort; `next` is the record after it
-  unfoldable pub write_entry : Connection → List ℕ → Access → Acted
-  write_entry next bytes (Denied code) = aborts c share image transaction code
-  write_entry next bytes (Granted e) = replies next share (write_image image e bytes) transaction []
+  unfoldable pub write_entry : Connection → List ℕ → Result Entry AbortCode → Acted
+  write_entry next bytes (Err code) = aborts c share image transaction (abort_number code)
+  write_entry next bytes (Ok e) = replies next share (write_image image e bytes) transaction []
 
   unfoldable pub write_object : Connection → ℕ → ℕ → List ℕ → Acted
   write_object next index sub bytes = write_entry next bytes (writable (lookup image index sub) (length bytes))
@@ -152,7 +150,7 @@ module _ (c : Connection) (share image : List ℕ) (clock transaction : ℕ) whe
 
   -- "WriteByIndex Initiate: total 0 aborts 06070010; total above 8,192 aborts 05040005 (added, outside the domain)."
   abbrev pub new_download : ℕ → List ℕ → SdoTransferState
-  new_download total p = record { transaction = transaction; total = total; offset = min (length (data_of p)) OFFSET_MAX; index = index_of p; sub = sub_of p; deadline = At (deadline_after image clock); retries = 0; stored = false }
+  new_download total p = record { transaction = transaction; total = total; offset = min (length (data_of p)) OFFSET_MAX; index = index_of p; sub = sub_of p; deadline = Some (deadline_after image clock); retries = 0; stored = false }
 
   unfoldable pub write_initiate : ℕ → List ℕ → Acted
   write_initiate total p =
@@ -163,7 +161,7 @@ module _ (c : Connection) (share image : List ℕ) (clock transaction : ℕ) whe
 
   -- "Segment or Complete: … other transaction, 08000000; beyond total, 06070010; Complete below total, 06070013; else stored, and Complete writes."
   abbrev pub after_segment : SdoTransferState → List ℕ → SdoTransferState
-  after_segment t bytes = record { transaction = t.transaction; total = t.total; offset = t.offset + length bytes; index = t.index; sub = t.sub; deadline = At (deadline_after image clock); retries = t.retries; stored = t.stored }
+  after_segment t bytes = record { transaction = t.transaction; total = t.total; offset = t.offset + length bytes; index = t.index; sub = t.sub; deadline = Some (deadline_after image clock); retries = t.retries; stored = t.stored }
 
   unfoldable pub write_segment : SdoTransferState → List ℕ → Acted
   write_segment t bytes =

@@ -1,22 +1,41 @@
 // The types that definitions and code share. Types and variants have the Rust's names; a field is one word, with the Rust's name beside it where it differs.
 #![tactic(auto)]
 
-// Receive marks (rcon) of the sequence header, 0 to 3.
-#[derive(Clone, Copy)]
+mod conversions;
+
+// The most payload bytes of an answer: what a piece of an upload has.
+pub const MAX_EXPEDITED_PAYLOAD: u32 = 1452;
+
+// The bytes of a record's own share of the area: the longest value of a transfer.
+pub const SHARE: u32 = 8192;
+
+// The last clock that is not refused.
+pub const CLOCK_MAX: u64 = 0x7FFFFFFFFFFFFFFF;
+
+// The area's length.
+pub const AREA: usize = 65536;
+
+// The shortest answer buffer, and the longest request.
+pub const ANSWER_MIN: usize = 1468;
+
+pub const REQUEST_MAX: usize = 1500;
+
+// Receive marks (rcon) of the sequence header.
+#[derive(Clone, Copy, PartialEq, Eq)]
 pub enum ReceiveConnState {
-    NoConnection,
-    Initialization,
-    ConnectionValid,
-    ErrorResponse,
+    NoConnection = 0,
+    Initialization = 1,
+    ConnectionValid = 2,
+    ErrorResponse = 3,
 }
 
-// Send marks (scon) of the sequence header, 0 to 3.
-#[derive(Clone, Copy)]
+// Send marks (scon) of the sequence header.
+#[derive(Clone, Copy, PartialEq, Eq)]
 pub enum SendConnState {
-    NoConnection,
-    Initialization,
-    ConnectionValid,
-    ConnectionValidAckRequest,
+    NoConnection = 0,
+    Initialization = 1,
+    ConnectionValid = 2,
+    ConnectionValidAckRequest = 3,
 }
 
 // The four-byte header of the sequence layer.
@@ -28,31 +47,31 @@ pub struct SequenceLayerHeader {
     pub scon: SendConnState, // send_con
 }
 
-// The known command ids.
-#[derive(Clone, Copy)]
+// The known command ids, each with its byte.
+#[derive(Clone, Copy, PartialEq, Eq)]
 pub enum CommandId {
-    Nil,
-    WriteByIndex,
-    ReadByIndex,
-    WriteAllByIndex,
-    ReadAllByIndex,
-    WriteByName,
-    ReadByName,
-    FileWrite,
-    FileRead,
-    WriteMultipleParamByIndex,
-    ReadMultipleParamByIndex,
-    Abort,
-    MaxSegmentSize,
+    Nil = 0x00,
+    WriteByIndex = 0x01,
+    ReadByIndex = 0x02,
+    WriteAllByIndex = 0x03,
+    ReadAllByIndex = 0x04,
+    WriteByName = 0x05,
+    ReadByName = 0x06,
+    FileWrite = 0x20,
+    FileRead = 0x21,
+    WriteMultipleParamByIndex = 0x31,
+    ReadMultipleParamByIndex = 0x32,
+    Abort = 0x40,
+    MaxSegmentSize = 0x70,
 }
 
-// How a command belongs to a transfer, 0 to 3.
-#[derive(Clone, Copy)]
+// How a command belongs to a transfer.
+#[derive(Clone, Copy, PartialEq, Eq)]
 pub enum Segmentation {
-    Expedited,
-    Initiate,
-    Segment,
-    Complete,
+    Expedited = 0,
+    Initiate = 1,
+    Segment = 2,
+    Complete = 3,
 }
 
 // The fixed header of the command layer.
@@ -66,61 +85,48 @@ pub struct CommandLayerHeader {
     pub size: u16, // segment_size
 }
 
-// The total size that an Initiate carries: the Rust's Option<u32>.
-#[derive(Clone, Copy)]
-pub enum DataSize {
-    NoSize,
-    Size(u32),
-}
-
 // A command but for its payload, which stands beside it as a part of the bytes that it was read from.
 #[derive(Clone, Copy)]
 pub struct SdoCommand {
     pub header: CommandLayerHeader,
-    pub total: DataSize, // data_size
+    pub total: Option<u32>, // data_size: the total size that an Initiate carries
 }
 
-// What coding into a buffer answers: how many bytes were written, or that the buffer is too short.
-#[derive(Clone, Copy)]
-pub enum Written {
-    Bytes(usize),
-    BufferTooShort,
-}
+// Why nothing is coded: the buffer is too short.
+#[derive(Clone, Copy, PartialEq, Eq)]
+pub struct BufferTooShort;
 
-// What decoding a sequence header answers.
-#[derive(Clone, Copy)]
-pub enum HeaderRead {
-    Header(SequenceLayerHeader),
-    BufferTooShort,
-}
+// Why a byte is no command id.
+#[derive(Clone, Copy, PartialEq, Eq)]
+pub struct InvalidEnumValue;
 
-// What a byte is as a command id.
-#[derive(Clone, Copy)]
-pub enum IdRead {
-    Id(CommandId),
-    InvalidEnumValue,
-}
-
-// What decoding a command answers: BufferTooShort where the header is cut short, Undecodable for an unknown id or a payload cut short.
-#[derive(Clone, Copy)]
-pub enum CommandRead {
-    Command(SdoCommand),
+// Why bytes are no command: BufferTooShort where the header is cut short, Undecodable for an unknown id or a payload cut short.
+#[derive(Clone, Copy, PartialEq, Eq)]
+pub enum CommandError {
     BufferTooShort,
     Undecodable,
 }
 
-// A client. A MAC address and an IP address are numbers, the first byte on the wire the most significant.
-#[derive(Clone, Copy)]
+// The abort codes that the server sends, each with its number on the wire.
+#[derive(Clone, Copy, PartialEq, Eq)]
+pub enum AbortCode {
+    TimedOut = 0x05040000,
+    InvalidCommand = 0x05040001,
+    InvalidSequence = 0x05040003,
+    OutOfMemory = 0x05040005,
+    ReadOnly = 0x06010002,
+    NoObject = 0x06020000,
+    LengthMisfit = 0x06070010,
+    LengthTooLow = 0x06070013,
+    NoSubIndex = 0x06090011,
+    GeneralError = 0x08000000,
+}
+
+// A client. A MAC address and an IP address are numbers, the first byte on the wire the most significant. Clients are ordered as they stand here, and by their fields in order.
+#[derive(Clone, Copy, PartialEq, Eq, PartialOrd, Ord)]
 pub enum SdoClientInfo {
     Asnd { node: u8, mac: u64 }, // source_node_id, source_mac
     Udp { ip: u32, port: u16 }, // source_ip, source_port
-}
-
-// The time at which a transfer is due: the Rust's Option<u64>.
-#[derive(Clone, Copy)]
-pub enum Deadline {
-    NoDeadline,
-    At(u64),
 }
 
 // A transfer, held in the state that runs it. Its bytes are in the client's share of the area.
@@ -131,7 +137,7 @@ pub struct SdoTransferState {
     pub offset: u32, // offset
     pub index: u16, // index
     pub sub: u8, // sub_index
-    pub deadline: Deadline, // deadline_us
+    pub deadline: Option<u64>, // deadline_us: when it is due
     pub retries: u32, // retransmissions_left
     pub stored: bool, // last_sent_segment is there: the bytes before offset hold it
 }
@@ -168,19 +174,11 @@ pub struct Entry {
     pub length: u16,
 }
 
-// What looking an object up finds.
-#[derive(Clone, Copy)]
-pub enum Lookup {
+// What is missing where an object is looked up.
+#[derive(Clone, Copy, PartialEq, Eq)]
+pub enum LookupError {
     NoObject,
     NoSubIndex,
-    Found(Entry),
-}
-
-// What a read of a lookup is, and what a write would be: the entry, or an abort code.
-#[derive(Clone, Copy)]
-pub enum Access {
-    Denied(u32),
-    Granted(Entry),
 }
 
 // Where an answer's payload stands: nowhere, a part of the image, a part of the client's share of the area (place and length), or numbers that the answer's writer lays out.
@@ -208,12 +206,19 @@ pub struct Piece {
     pub body: Body,
 }
 
-// What the sequence step leaves: the record with the answer's header so far, or the record of a frame that does not fit.
+// What is left of a record, and what is said.
 #[derive(Clone, Copy)]
-pub enum Step {
-    Stepped(Connection, SequenceLayerHeader),
-    Misfit(Connection),
+pub struct Left<T> {
+    pub connection: Connection,
+    pub said: T,
 }
+
+// Why the sequence step says no header: the frame does not fit.
+#[derive(Clone, Copy, PartialEq, Eq)]
+pub struct Misfit;
+
+// What the sequence step leaves: the record, with the answer's header so far where the frame fits.
+pub type Step = Left<Result<SequenceLayerHeader, Misfit>>;
 
 // An answer: its header, its command, and where its payload stands. The client it goes to stands in the record.
 #[derive(Clone, Copy)]
@@ -223,81 +228,33 @@ pub struct SdoResponseData {
     pub body: Body,
 }
 
-// What stands before the sequence step: a resend of the stored piece, or nothing.
-#[derive(Clone, Copy)]
-pub enum Resend {
-    Resends(SdoResponseData),
-    GoesOn,
-}
-
-// Why a call is refused: document 01's numbers 1 to 9 in order.
-#[derive(Clone, Copy)]
+// Why a call is refused, each with document 01's number.
+#[derive(Clone, Copy, PartialEq, Eq)]
 pub enum Refusal {
-    Lent,
-    Image,
-    Table,
-    Clock,
-    Short,
-    Long,
-    Full,
-    Sequence,
-    EmptyCommand,
+    Lent = 1,
+    Image = 2,
+    Table = 3,
+    Clock = 4,
+    Short = 5,
+    Long = 6,
+    Full = 7,
+    Sequence = 8,
+    EmptyCommand = 9,
 }
 
 // What a request leaves of a record, and what is said to it: an answer, or a refusal.
+pub type Handled = Left<Result<SdoResponseData, Refusal>>;
+
+// An answer in the answer buffer: the client that it goes to, and its length.
 #[derive(Clone, Copy)]
-pub enum Handled {
-    Answered(Connection, SdoResponseData),
-    Refused(Connection, Refusal),
+pub struct Answered {
+    pub client: SdoClientInfo,
+    pub length: usize,
 }
 
-// What a tick makes of a record that is due: nothing, or the record after it and the answer.
+// What a call returns with the row of eight by value: what it says, or why it is refused, and the row after it.
 #[derive(Clone, Copy)]
-pub enum RecordTicked {
-    Nothing,
-    Answered(Connection, SdoResponseData),
-}
-
-// What handle_request answers: a refusal, or the client and the answer's length.
-#[derive(Clone, Copy)]
-pub enum Outcome {
-    Refused(Refusal),
-    Answered(SdoClientInfo, usize),
-}
-
-// What tick answers: a refusal, nobody, or the client and the answer's length.
-#[derive(Clone, Copy)]
-pub enum Ticked {
-    Refused(Refusal),
-    Nothing,
-    Answered(SdoClientInfo, usize),
-}
-
-// What next_action_time answers: a refusal, no deadline, or the earliest.
-#[derive(Clone, Copy)]
-pub enum NextAction {
-    Refused(Refusal),
-    Nothing,
-    At(u64),
-}
-
-// What the refusals' tests answer.
-#[derive(Clone, Copy)]
-pub enum Checked {
-    Refused(Refusal),
-    Accepted,
-}
-
-// What handle_request answers with the row of eight by value: the outcome, and the row after it.
-#[derive(Clone, Copy)]
-pub struct Requested {
-    pub outcome: Outcome,
-    pub table: [Connection; 8],
-}
-
-// What tick answers with the row of eight by value: the outcome, and the row after it.
-#[derive(Clone, Copy)]
-pub struct TickedRow {
-    pub outcome: Ticked,
+pub struct Called<T> {
+    pub outcome: Result<T, Refusal>,
     pub table: [Connection; 8],
 }
