@@ -4,19 +4,13 @@
 ghost use Rattle.std.specs.Prelude.{◌≡◌, ℕ, ◌+◌, ◌≤◌, length, ltb};
 ghost use Rattle.protocol.specs.TransferRecord.{told_action, write_segment, write_complete, download_step, write_data, write_by_index};
 
-use protocol::{Action, Connection, Deadline, SdoServerState, SdoTransferState, Segmentation};
+use protocol::{AbortCode, Action, Connection, SdoServerState, SdoTransferState, Segmentation};
 
 // Whether data at an offset goes beyond the total.
 fn is_beyond(total: u32, offset: u32, n: usize) -> bool
     ensures { result ≡ ltb total (offset + n) }
 {
-    if total < offset {
-        return true;
-    }
-    if ((total - offset) as usize) < n {
-        return true;
-    }
-    false
+    (offset as usize).saturating_add(n) > total as usize
 }
 
 // Where data ends that does not go beyond the total.
@@ -24,10 +18,11 @@ fn end_of(t: SdoTransferState, bytes: &[u8]) -> u32
     requires { t.offset + length bytes.now ≤ t.total }
     ensures { result ≡ t.offset + length bytes.now }
 {
-    t.offset + ((bytes.len() % 4294967296) as u32)
+    t.offset + bytes.len() as u32
 }
 
 // A Segment write: its data is stored after what is there.
+#[tactic(auto, unfolding(protocol::specs::TransferRecord::write_segment))]
 fn write_segment(
     c: Connection,
     share: &mut [u8],
@@ -41,24 +36,17 @@ fn write_segment(
     ensures { told_action result share.new image.now ≡ write_segment c share.old image.now clock transaction t bytes.now }
 {
     octets::copy_at(share, t.offset as usize, bytes);
-    let deadline = Deadline::At(state::deadline_after(image, clock));
     let next = SdoTransferState {
-        transaction: t.transaction,
-        total: t.total,
         offset: end_of(t, bytes),
-        index: t.index,
-        sub: t.sub,
-        deadline: deadline,
-        retries: t.retries,
-        stored: t.stored,
+        deadline: Some(state::deadline_after(image, clock)),
+        ..t
     };
-    handlers::acknowledge(
-        state::with_state(c, SdoServerState::SegmentedDownload(next)),
-        transaction,
-    )
+    let next = state::with_state(c, SdoServerState::SegmentedDownload(next));
+    handlers::acknowledge(next, transaction)
 }
 
 // A Complete write: the object is written from the share.
+#[tactic(auto, unfolding(protocol::specs::TransferRecord::write_complete, picks::specs::Pick::pick))]
 fn write_complete(
     c: Connection,
     share: &mut [u8],
@@ -71,7 +59,7 @@ fn write_complete(
     ensures { (clock : ℕ) → told_action result share.new image.new ≡ write_complete c share.old image.old clock transaction t bytes.now }
 {
     if end_of(t, bytes) < t.total {
-        return handlers::abort(c, transaction, 0x06070013);
+        return handlers::abort(c, transaction, AbortCode::LengthTooLow as u32);
     }
     octets::copy_at(share, t.offset as usize, bytes);
     let value = octets::part(share, 0, t.total as usize);
@@ -80,6 +68,7 @@ fn write_complete(
 }
 
 // Data of a running download.
+#[tactic(auto, unfolding(protocol::specs::TransferRecord::download_step, picks::specs::Pick::pick))]
 fn download_step(
     c: Connection,
     share: &mut [u8],
@@ -92,19 +81,21 @@ fn download_step(
 ) -> Action
     ensures { told_action result share.new image.new ≡ download_step c share.old image.old clock transaction complete t bytes.now }
 {
-    if t.transaction == transaction {
-        if is_beyond(t.total, t.offset, bytes.len()) {
-            return handlers::abort(c, transaction, 0x06070010);
-        }
-        if complete {
-            return write_complete(c, share, image, transaction, t, bytes);
-        }
-        return write_segment(c, share, image, clock, transaction, t, bytes);
+    if t.transaction != transaction {
+        return handlers::abort(c, transaction, AbortCode::GeneralError as u32);
     }
-    handlers::abort(c, transaction, 0x08000000)
+    if is_beyond(t.total, t.offset, bytes.len()) {
+        return handlers::abort(c, transaction, AbortCode::LengthMisfit as u32);
+    }
+    if complete {
+        write_complete(c, share, image, transaction, t, bytes)
+    } else {
+        write_segment(c, share, image, clock, transaction, t, bytes)
+    }
 }
 
-// A Segment or a Complete write.
+// A Segment or a Complete write: their tests are the same, and `complete` tells them apart behind those.
+#[tactic(auto, unfolding(protocol::specs::TransferRecord::write_data))]
 fn write_data(
     c: Connection,
     share: &mut [u8],
@@ -116,16 +107,10 @@ fn write_data(
 ) -> Action
     ensures { told_action result share.new image.new ≡ write_data c share.old image.old clock transaction complete bytes.now c.state }
 {
-    let s = c.state;
-    match s {
-        SdoServerState::Closed => handlers::abort(c, transaction, 0x05040003),
-        SdoServerState::Opening => handlers::abort(c, transaction, 0x05040003),
-        SdoServerState::Established => handlers::abort(c, transaction, 0x05040003),
-        SdoServerState::SegmentedUpload(t) => handlers::abort(c, transaction, 0x05040003),
-        SdoServerState::SegmentedDownload(t) => {
-            download_step(c, share, image, clock, transaction, complete, t, bytes)
-        }
-    }
+    let SdoServerState::SegmentedDownload(t) = c.state else {
+        return handlers::abort(c, transaction, AbortCode::InvalidSequence as u32);
+    };
+    download_step(c, share, image, clock, transaction, complete, t, bytes)
 }
 
 // WriteByIndex.

@@ -1,15 +1,15 @@
 // The answers to commands, reads by index, and the segment size (handlers.rs). The client's own share of the area is lent to the copy at an upload's start.
 #![tactic(auto)]
 
-ghost use Rattle.std.specs.Prelude.{◌≡◌, List, [], ℕ, ◌≤◌, length, take, ltb};
+ghost use Rattle.std.specs.Prelude.{◌≡◌, List, [], ℕ, length, take, ltb};
 ghost use Rattle.picks.specs.Pick.{pick};
 ghost use Rattle.octets.specs.Octets.{le};
 ghost use Rattle.protocol.specs.DictionaryImage.{value_of};
 ghost use Rattle.protocol.specs.TransferRecord.{body_bytes, body_part, told_action, aborts, replies, new_upload, read_value, read_by_index, max_segment_size};
 
 use protocol::{
-    Access, Action, Body, CommandId, CommandLayerHeader, Connection, DataSize, Deadline, Entry,
-    SdoCommand, SdoServerState, SdoTransferState, Segmentation,
+    AbortCode, Action, Body, CommandId, CommandLayerHeader, Connection, Entry,
+    MAX_EXPEDITED_PAYLOAD, SdoCommand, SdoServerState, SdoTransferState, Segmentation,
 };
 
 // An abort: the record is closed and its numbers are reset.
@@ -17,7 +17,7 @@ pub fn abort(c: Connection, transaction: u8, code: u32) -> Action
     ensures { (share image : List ℕ) → told_action result share image ≡ aborts c share image transaction code }
 {
     let header = CommandLayerHeader {
-        transaction: transaction,
+        transaction,
         response: true,
         aborted: true,
         segmentation: Segmentation::Expedited,
@@ -27,8 +27,8 @@ pub fn abort(c: Connection, transaction: u8, code: u32) -> Action
     Action {
         connection: state::moved(c, 0, 63, SdoServerState::Closed),
         command: SdoCommand {
-            header: header,
-            total: DataSize::NoSize,
+            header,
+            total: None,
         },
         body: Body::Code(code),
     }
@@ -39,20 +39,20 @@ fn reply(c: Connection, transaction: u8, size: u16, body: Body) -> Action
     ensures { (share image : List ℕ) → length (body_bytes share image body) ≡ size → told_action result share image ≡ replies c share image transaction (body_bytes share image body) }
 {
     let header = CommandLayerHeader {
-        transaction: transaction,
+        transaction,
         response: true,
         aborted: false,
         segmentation: Segmentation::Expedited,
         id: CommandId::Nil,
-        size: size,
+        size,
     };
     Action {
         connection: c,
         command: SdoCommand {
-            header: header,
-            total: DataSize::NoSize,
+            header,
+            total: None,
         },
-        body: body,
+        body,
     }
 }
 
@@ -63,31 +63,24 @@ pub fn acknowledge(c: Connection, transaction: u8) -> Action
     reply(c, transaction, 0, Body::Nothing)
 }
 
-// A value's size: an entry's length is the most that it can be.
-fn total_of(value: &[u8], most: u16) -> u32
-    requires { length value.now ≤ most }
-    ensures { result ≡ length value.now }
-{
-    (value.len() % 4294967296) as u32
-}
-
 // The transfer of an upload that has sent nothing.
 fn new_upload(transaction: u8, total: u32, index: u16, sub: u8) -> SdoTransferState
     ensures { (c : Connection) (share image : List ℕ) (clock : ℕ) → result ≡ new_upload c share image clock transaction total index sub }
 {
     SdoTransferState {
-        transaction: transaction,
-        total: total,
+        transaction,
+        total,
         offset: 0,
-        index: index,
-        sub: sub,
-        deadline: Deadline::NoDeadline,
+        index,
+        sub,
+        deadline: None,
         retries: 0,
         stored: false,
     }
 }
 
 // A read of an entry: its value as a part of the image, or copied into the share and sent in pieces.
+#[tactic(auto, unfolding(protocol::specs::TransferRecord::read_value, protocol::specs::Constants::PIECE, picks::specs::Pick::pick))]
 fn read_entry(
     c: Connection,
     share: &mut [u8],
@@ -101,14 +94,9 @@ fn read_entry(
     ensures { told_action result share.new image.now ≡ read_value c share.old image.now clock transaction index sub (value_of image.now e) }
 {
     let value = entries::value(image, e);
-    let total = total_of(value, e.length);
-    if total <= 1452 {
-        return reply(
-            c,
-            transaction,
-            (total % 65536) as u16,
-            Body::Image(e.body, e.length),
-        );
+    let total = value.len() as u32;
+    if total <= MAX_EXPEDITED_PAYLOAD {
+        return reply(c, transaction, total as u16, Body::Image(e.body, e.length));
     }
     octets::copy_at(share, 0, value);
     let t = new_upload(transaction, total, index, sub);
@@ -116,6 +104,7 @@ fn read_entry(
 }
 
 // ReadByIndex.
+#[tactic(auto, unfolding(protocol::specs::TransferRecord::read_by_index, protocol::specs::TransferRecord::read_entry, picks::specs::Pick::pick))]
 pub fn read_by_index(
     c: Connection,
     share: &mut [u8],
@@ -127,43 +116,44 @@ pub fn read_by_index(
     ensures { told_action result share.new image.now ≡ read_by_index c share.old image.now clock transaction payload.now }
 {
     if payload.len() < 4 {
-        return abort(c, transaction, 0x05040001);
+        return abort(c, transaction, AbortCode::InvalidCommand as u32);
     }
-    let index = octets::u16_at(payload, 0);
+    let index: u16 = octets::number_at(payload, 0);
     let sub = octets::byte_at(payload, 2);
-    let access = entries::readable(dictionary::lookup(image, index, sub));
-    match access {
-        Access::Denied(code) => abort(c, transaction, code),
-        Access::Granted(e) => read_entry(c, share, image, clock, transaction, index, sub, e),
+    match entries::readable(dictionary::lookup(image, index, sub)) {
+        Err(code) => abort(c, transaction, u32::from(code)),
+        Ok(e) => read_entry(c, share, image, clock, transaction, index, sub, e),
     }
 }
 
 // The client's own segment size, 0 if absent.
+#[tactic(auto, unfolding(picks::specs::Pick::pick))]
 fn client_size(payload: &[u8]) -> u16
     ensures { result ≡ pick (ltb (length payload.now) 2) 0 (le (take 2 payload.now)) }
 {
     if payload.len() < 2 {
         return 0;
     }
-    octets::u16_at(payload, 0)
+    octets::number_at(payload, 0)
 }
 
 // MaxSegmentSize: the client's size, then ours.
+#[tactic(auto, unfolding(protocol::specs::TransferRecord::max_segment_size, protocol::specs::Constants::PIECE, octets::specs::Octets::le_bytes))]
 pub fn max_segment_size(c: Connection, transaction: u8, payload: &[u8]) -> Action
     ensures { (share image : List ℕ) → told_action result share image ≡ max_segment_size c share image transaction payload.now }
 {
-    reply(c, transaction, 4, Body::Sizes(client_size(payload), 1452))
+    let ours = MAX_EXPEDITED_PAYLOAD as u16;
+    reply(c, transaction, 4, Body::Sizes(client_size(payload), ours))
 }
 
 // An answer's payload as a part of the image for an Expedited answer, and as a part of the client's share for a piece; one made of numbers stands in neither.
+#[tactic(auto, unfolding(picks::specs::Pick::pick))]
 pub fn payload<'a>(share: &'a [u8], image: &'a [u8], body: Body) -> &'a [u8]
     ensures { result.now ≡ body_part share.now image.now body }
 {
     match body {
-        Body::Nothing => octets::part(image, 0, 0),
         Body::Image(at, n) => octets::part(image, at as usize, n as usize),
         Body::Share(at, n) => octets::part(share, at as usize, n as usize),
-        Body::Code(code) => octets::part(image, 0, 0),
-        Body::Sizes(a, b) => octets::part(image, 0, 0),
+        Body::Nothing | Body::Code(_) | Body::Sizes(_, _) => &[],
     }
 }

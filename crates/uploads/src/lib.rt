@@ -6,19 +6,17 @@ ghost use Rattle.protocol.specs.Command.{id_byte, with_payload};
 ghost use Rattle.protocol.specs.TransferRecord.{told_action};
 ghost use Rattle.protocol.specs.ConnectionRecord.{upload_command};
 
-use protocol::{Action, CommandId, Connection, SdoCommand, SdoTransferState};
+use protocol::{AbortCode, Action, CommandId, Connection, SdoCommand, SdoTransferState};
 
 // Whether a command of an upload's transaction asks for the next piece.
 fn asks_next(id: CommandId, response: bool) -> bool
     ensures { result ≡ (eqb (id_byte id) 0 || response) }
 {
-    if fields::id_byte(id) == 0 {
-        return true;
-    }
-    response
+    id == CommandId::Nil || response
 }
 
 // A command that meets an upload.
+#[tactic(auto, unfolding(protocol::specs::ConnectionRecord::upload_command, picks::specs::Pick::pick))]
 pub fn upload_command(
     c: Connection,
     image: &[u8],
@@ -29,12 +27,11 @@ pub fn upload_command(
     ensures { (share p : List ℕ) → told_action result share image.now ≡ upload_command c share image.now clock t (with_payload m p) }
 {
     let h = m.header;
-    let id = h.id;
-    if t.transaction == h.transaction {
-        if asks_next(id, h.response) {
-            return state::advance(c, image, clock, t);
-        }
-        return handlers::abort(c, h.transaction, 0x05040003);
+    if t.transaction != h.transaction {
+        return handlers::abort(c, h.transaction, AbortCode::GeneralError as u32);
     }
-    handlers::abort(c, h.transaction, 0x08000000)
+    if asks_next(h.id, h.response) {
+        return state::advance(c, image, clock, t);
+    }
+    handlers::abort(c, h.transaction, AbortCode::InvalidSequence as u32)
 }

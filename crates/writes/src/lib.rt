@@ -5,9 +5,10 @@ ghost use Rattle.std.specs.Prelude.{◌≡◌, List, ℕ, min};
 ghost use Rattle.protocol.specs.Constants.{OFFSET_MAX};
 ghost use Rattle.protocol.specs.TransferRecord.{told_action, write_object, write_expedited, new_download, write_initiate};
 
-use protocol::{Access, Action, Connection, Deadline, SdoServerState, SdoTransferState};
+use protocol::{AbortCode, Action, Connection, SHARE, SdoServerState, SdoTransferState};
 
 // A write of an object's value with its checks; `next` is the record after it.
+#[tactic(auto, unfolding(protocol::specs::TransferRecord::write_object, protocol::specs::TransferRecord::write_entry))]
 pub fn write_object(
     c: Connection,
     next: Connection,
@@ -19,10 +20,9 @@ pub fn write_object(
 ) -> Action
     ensures { (share : List ℕ) (clock : ℕ) → told_action result share image.new ≡ write_object c share image.old clock transaction next index sub bytes.now }
 {
-    let access = entries::writable(dictionary::lookup(image, index, sub), bytes.len());
-    match access {
-        Access::Denied(code) => handlers::abort(c, transaction, code),
-        Access::Granted(e) => {
+    match entries::writable(dictionary::lookup(image, index, sub), bytes.len()) {
+        Err(code) => handlers::abort(c, transaction, u32::from(code)),
+        Ok(e) => {
             entries::write(image, e, bytes);
             handlers::acknowledge(next, transaction)
         }
@@ -30,33 +30,25 @@ pub fn write_object(
 }
 
 // An Expedited write.
+#[tactic(auto, unfolding(protocol::specs::TransferRecord::write_expedited, picks::specs::Pick::pick))]
 pub fn write_expedited(c: Connection, image: &mut [u8], transaction: u8, payload: &[u8]) -> Action
     ensures { (share : List ℕ) (clock : ℕ) → told_action result share image.new ≡ write_expedited c share image.old clock transaction payload.now }
 {
     if payload.len() < 4 {
-        return handlers::abort(c, transaction, 0x05040001);
+        return handlers::abort(c, transaction, AbortCode::InvalidCommand as u32);
     }
-    let index = octets::u16_at(payload, 0);
+    let index: u16 = octets::number_at(payload, 0);
     let sub = octets::byte_at(payload, 2);
-    write_object(
-        c,
-        c,
-        image,
-        transaction,
-        index,
-        sub,
-        octets::rest(payload, 4),
-    )
+    let data = octets::rest(payload, 4);
+    write_object(c, c, image, transaction, index, sub, data)
 }
 
 // The offset behind an Initiate's data.
+#[tactic(auto, unfolding(protocol::specs::Constants::OFFSET_MAX))]
 fn first_offset(n: usize) -> u32
     ensures { result ≡ min n OFFSET_MAX }
 {
-    if n <= 4294967295 {
-        return (n % 4294967296) as u32;
-    }
-    4294967295
+    u32::try_from(n).unwrap_or(u32::MAX)
 }
 
 // A download that an Initiate begins: its first data is stored in the share.
@@ -71,18 +63,19 @@ fn new_download(
 {
     let n = octets::rest(payload, 4).len();
     SdoTransferState {
-        transaction: transaction,
-        total: total,
+        transaction,
+        total,
         offset: first_offset(n),
-        index: octets::u16_at(payload, 0),
+        index: octets::number_at(payload, 0),
         sub: octets::byte_at(payload, 2),
-        deadline: Deadline::At(state::deadline_after(image, clock)),
+        deadline: Some(state::deadline_after(image, clock)),
         retries: 0,
         stored: false,
     }
 }
 
 // An Initiate write.
+#[tactic(auto, unfolding(protocol::specs::TransferRecord::write_initiate, picks::specs::Pick::pick, protocol::specs::Constants::SHARE))]
 pub fn write_initiate(
     c: Connection,
     share: &mut [u8],
@@ -95,18 +88,16 @@ pub fn write_initiate(
     ensures { told_action result share.new image.now ≡ write_initiate c share.old image.now clock transaction total payload.now }
 {
     if payload.len() < 4 {
-        return handlers::abort(c, transaction, 0x05040001);
+        return handlers::abort(c, transaction, AbortCode::InvalidCommand as u32);
     }
     if total == 0 {
-        return handlers::abort(c, transaction, 0x06070010);
+        return handlers::abort(c, transaction, AbortCode::LengthMisfit as u32);
     }
-    if 8192 < total {
-        return handlers::abort(c, transaction, 0x05040005);
+    if SHARE < total {
+        return handlers::abort(c, transaction, AbortCode::OutOfMemory as u32);
     }
     octets::copy_at(share, 0, octets::rest(payload, 4));
     let t = new_download(image, clock, transaction, total, payload);
-    handlers::acknowledge(
-        state::with_state(c, SdoServerState::SegmentedDownload(t)),
-        transaction,
-    )
+    let next = state::with_state(c, SdoServerState::SegmentedDownload(t));
+    handlers::acknowledge(next, transaction)
 }

@@ -6,4 +6,4 @@ use Rattle.dictionary.proofs.lookup.Goals as goal
 pub returns : goal.returns
 returns c =
     let a = c.args in
-    c.lookup_from.ensures ∙ sym (lookup_whole a.image.now c.u16_at-n.result a.index a.sub c.u16_at-n.ensures)
+    c.lookup_from.ensures ∙ sym (lookup_whole a.image.now c.number_at-n.result a.index a.sub c.number_at-n.ensures)

@@ -1,13 +1,21 @@
 -- What is looked up is what the entries from the turn's on give, and whether the index was seen before them. What a turn skips changes nothing.
-use Prim.Native.Nat.{◌+◌, ◌*◌, ◌-◌}
-use mathlib.Core.Path.{refl, ap, ◌∙◌}
-use Rattle.picks.proofs.Picks.{flag}
-use Rattle.protocol.specs.declared.Lookup.TheVariants.{Found}
-use Rattle.protocol.specs.DictionaryImage.{entry_at}
-use Rattle.dictionary.proofs.Walk.{lookup_here, lookup_more, lookup_past, lookup_end}
-use borrow.Author.Rules.{rules}
+use Prim.Native.Nat.{◌+◌, ◌-◌}
 use native.Mathlib.Omega.{arith}
+use mathlib.Core.Path.{◌≡◌, sym, ap, ◌∙◌}
+use mathlib.Core.Bool.{Bool, false, ◌||◌}
+use lib.Dec.{eqb}
+use borrow.Author.Tests.{eq-eqb}
+use Rattle.std.specs.Prelude.{Result, Err}
+use Rattle.picks.specs.Pick.{pick}
+use Rattle.protocol.specs.declared.Entry.{Entry}
+use Rattle.protocol.specs.declared.LookupError.{LookupError}
+use Rattle.protocol.specs.declared.LookupError.TheVariants.{NoObject, NoSubIndex}
+use Rattle.protocol.specs.DictionaryImage.{is_at}
+use Rattle.dictionary.specs.Skipping.{lookup_from}
+use Rattle.dictionary.proofs.Walk.{lookup_here, lookup_more, lookup_past, lookup_end}
+use Rattle.dictionary.proofs.Missing.{is_seen, as_told, other_sub, other_index}
 use Rattle.dictionary.proofs.lookup_from.Goals as goal
+use Rattle.dictionary.proofs.lookup_from.Goals.{then-e-index+else-e-sub, else-e-index}
 
 -- a turn stays within the entries
 pub overflow_mul-at : goal.overflow_mul-at
@@ -16,35 +24,6 @@ overflow_mul-at c = let less = c.skip-i.ensures.1 c.loop-i-test.true in omega ar
 pub overflow_add-at : goal.overflow_add-at
 overflow_add-at c = let less = c.skip-i.ensures.1 c.loop-i-test.true in omega arith
 
-pub has_index-here-requires : goal.has_index-here-requires
-has_index-here-requires c = let less = c.skip-i.ensures.1 c.loop-i-test.true in search rules
-
-pub has_sub-requires : goal.has_sub-requires
-has_sub-requires c = let s = c in let less = s.skip-i.ensures.1 s.loop-i-test.true in search rules
-
-pub returns-then-has_sub : goal.returns-then-has_sub
-returns-then-has_sub c =
-    let h = c in
-    let s = h in
-    let l = s.loop-i in
-    let a = s.args in
-    let i = s.skip-i.result in
-    let less = s.skip-i.ensures.1 s.loop-i-test.true in
-    let same = l.invariant ∙ s.skip-i.ensures.2 a.index a.sub l.seen (omega arith) (omega arith) in
-    ap Found c.entry_at.ensures ∙ lookup_here a.image.now a.n i (entry_at a.image.now (2 + 12 * i)) less refl _ _ _ same (rw h.has_index-here.ensures at (flag c.has_sub.ensures c.if-has_sub.true))
-
-pub returns-then-image-at : goal.returns-then-image-at
-returns-then-image-at c =
-    let d = c in
-    let h = d in
-    let s = h in
-    let l = s.loop-i in
-    let a = s.args in
-    let i = s.skip-i.result in
-    let less = s.skip-i.ensures.1 s.loop-i-test.true in
-    let same = l.invariant ∙ s.skip-i.ensures.2 a.index a.sub l.seen (omega arith) (omega arith) in
-    c.missing.ensures ∙ rw h.has_index-here.ensures (lookup_past a.image.now a.n i (entry_at a.image.now (2 + 12 * i)) less refl _ _ _ same c.if-image-at.true (rw h.has_index-here.ensures at (flag d.has_sub.ensures c.if-has_sub.false)))
-
 pub loop-i-smaller : goal.loop-i-smaller
 loop-i-smaller c =
     let s = c in
@@ -52,20 +31,39 @@ loop-i-smaller c =
     let on = s.skip-i.ensures.0 in
     omega arith
 
+pub returns-then-e-sub : goal.returns-then-e-sub
+returns-then-e-sub c =
+    let l = c.loop-i in
+    let a = c.args in
+    let e = c.entry_at-e.result in
+    let less = c.skip-i.ensures.1 c.loop-i-test.true in
+    let same = l.invariant ∙ c.skip-i.ensures.2 a.index a.sub (is_seen l.missing) (omega arith) (omega arith) in
+    lookup_here a.image.now a.n c.skip-i.result e less c.entry_at-e.ensures _ _ _ same (rw (eq-eqb e.index a.index c.if-e-index.true, eq-eqb e.sub a.sub c.if-e-sub.true))
+
+pub returns-then-image-at : goal.returns-then-image-at
+returns-then-image-at c =
+    let l = c.loop-i in
+    let a = c.args in
+    let e = c.entry_at-e.result in
+    let m = c.if-e-index.missing in
+    let less = c.skip-i.ensures.1 c.loop-i-test.true in
+    let same = l.invariant ∙ c.skip-i.ensures.2 a.index a.sub (is_seen l.missing) (omega arith) (omega arith) in
+    let p : (is_at a.index a.sub e ≡ false) × (is_seen m ≡ (is_seen l.missing || eqb e.index a.index)) = elim c.if-e-index.branch [ then-e-index+else-e-sub w ↦ other_sub e a.index a.sub l.missing m w.if-e-index.true w.if-e-sub.false w.missing-is | else-e-index w ↦ other_index e a.index a.sub l.missing m w.if-e-index.false w.missing-is ] in
+    sym (as_told m) ∙ ap (λ (b : Bool). pick {A = Result Entry LookupError} b (Err NoSubIndex) (Err NoObject)) p.1 ∙ lookup_past a.image.now a.n c.skip-i.result e less c.entry_at-e.ensures _ _ _ same c.if-image-at.true p.0
+
 pub loop-i-preserved : goal.loop-i-preserved
 loop-i-preserved c =
-    let d = c in
-    let h = d in
-    let s = h in
-    let l = s.loop-i in
-    let a = s.args in
-    let i = s.skip-i.result in
-    let less = s.skip-i.ensures.1 s.loop-i-test.true in
-    let same = l.invariant ∙ s.skip-i.ensures.2 a.index a.sub l.seen (omega arith) (omega arith) in
-    rw h.has_index-here.ensures (lookup_more a.image.now a.n i (entry_at a.image.now (2 + 12 * i)) less refl _ _ _ same (rw h.has_index-here.ensures at (flag d.has_sub.ensures c.if-has_sub.false)))
+    let l = c.loop-i in
+    let a = c.args in
+    let e = c.entry_at-e.result in
+    let m = c.if-e-index.missing in
+    let less = c.skip-i.ensures.1 c.loop-i-test.true in
+    let same = l.invariant ∙ c.skip-i.ensures.2 a.index a.sub (is_seen l.missing) (omega arith) (omega arith) in
+    let p : (is_at a.index a.sub e ≡ false) × (is_seen m ≡ (is_seen l.missing || eqb e.index a.index)) = elim c.if-e-index.branch [ then-e-index+else-e-sub w ↦ other_sub e a.index a.sub l.missing m w.if-e-index.true w.if-e-sub.false w.missing-is | else-e-index w ↦ other_index e a.index a.sub l.missing m w.if-e-index.false w.missing-is ] in
+    lookup_more a.image.now a.n c.skip-i.result e less c.entry_at-e.ensures _ _ _ same p.0 ∙ ap (λ (b : Bool). lookup_from a.image.now a.n (c.skip-i.result + 1) a.index a.sub b) (sym p.1)
 
 pub returns : goal.returns
 returns c =
     let l = c.loop-i in
     let a = c.args in
-    c.missing-2.ensures ∙ lookup_end a.image.now _ (a.n - l.i) (omega arith) _ _ _ l.invariant
+    sym (as_told l.missing) ∙ lookup_end a.image.now _ (a.n - l.i) (omega arith) _ _ _ l.invariant

@@ -9,4 +9,4 @@ pub returns : goal.returns
 unfolding timeout_of TIMEOUT_INDEX DEFAULT_TIMEOUT
 returns c =
     let image = c.args.image.now in
-    at_case (parameter_of image 15000) (lookup_whole image c.u16_at-n.result 0x1300 0 c.u16_at-n.ensures) c.parameter.ensures
+    at_case (parameter_of image 15000) (lookup_whole image c.number_at-n.result 0x1300 0 c.number_at-n.ensures) c.parameter.ensures

@@ -7,7 +7,4 @@ use Rattle.soundness.proofs.sound_entries.Given as goal
 
 abbrev pub invariant-loop-i : goal.invariant-loop-i
 invariant-loop-i l =
-    (l.i ≤ l.n) × (l.start ≤ 65536 + 65535 * l.i) × (sound_entries (length l.image) 0 (2 + 12 * l.n) (entries_from l.image 2 l.n) ≡ sound_entries (length l.image) l.least l.start (entries_from l.image (2 + 12 * l.i) (l.n - l.i)))
-
-abbrev pub decreases-loop-i : goal.decreases-loop-i
-decreases-loop-i l = l.n - l.i
+    (l.start ≤ 65536 + 65535 * l.i) × (sound_entries (length l.image) 0 (2 + 12 * l.n) (entries_from l.image 2 l.n) ≡ sound_entries (length l.image) l.least l.start (entries_from l.image (2 + 12 * l.i) (l.n - l.i)))
