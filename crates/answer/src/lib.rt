@@ -9,7 +9,8 @@ ghost use Rattle.protocol.specs.TransferRecord.{body_bytes};
 ghost use Rattle.protocol.specs.ConnectionRecord.{told_reply};
 ghost use Rattle.protocol.specs.Calls.{answer_written, answer_left};
 
-use protocol::{Body, SdoCommand, SdoResponseData, Written};
+use octets::LittleEndian;
+use protocol::{ANSWER_MIN, Body, BufferTooShort, SdoCommand, SdoResponseData};
 
 // Writes a command with its payload of at most so many bytes at the buffer's start and tells its length.
 fn put_command(m: SdoCommand, payload: &[u8], most: u16, buffer: &mut [u8]) -> usize
@@ -18,9 +19,7 @@ fn put_command(m: SdoCommand, payload: &[u8], most: u16, buffer: &mut [u8]) -> u
     ensures bytes { buffer.new ≡ splice 0 (encode_command flag_places (with_payload m payload.now)) buffer.old }
 {
     command::store(m, payload, buffer);
-    let h = m.header;
-    let kind = h.segmentation;
-    fields::header_length(kind) + payload.len()
+    fields::header_length(m.header.segmentation) + payload.len()
 }
 
 // A command whose payload is a u32.
@@ -28,13 +27,7 @@ fn put_code(m: SdoCommand, code: u32, buffer: &mut [u8]) -> usize
     ensures size { (result ≡ length (encode_command flag_places (with_payload m (le_bytes 4 code)))) × (result ≤ 65547) }
     ensures bytes { buffer.new ≡ splice 0 (encode_command flag_places (with_payload m (le_bytes 4 code))) buffer.old }
 {
-    let bytes = [
-        (code % 256) as u8,
-        (code / 256 % 256) as u8,
-        (code / 65536 % 256) as u8,
-        (code / 16777216 % 256) as u8,
-    ];
-    put_command(m, &bytes, 4, buffer)
+    put_command(m, &code.to_bytes(), 4, buffer)
 }
 
 // A command whose payload is two u16.
@@ -42,13 +35,9 @@ fn put_sizes(m: SdoCommand, a: u16, b: u16, buffer: &mut [u8]) -> usize
     ensures size { (result ≡ length (encode_command flag_places (with_payload m (le_bytes 2 a ++ le_bytes 2 b)))) × (result ≤ 65547) }
     ensures bytes { buffer.new ≡ splice 0 (encode_command flag_places (with_payload m (le_bytes 2 a ++ le_bytes 2 b))) buffer.old }
 {
-    let bytes = [
-        (a % 256) as u8,
-        (a / 256 % 256) as u8,
-        (b % 256) as u8,
-        (b / 256 % 256) as u8,
-    ];
-    put_command(m, &bytes, 4, buffer)
+    let [a_low, a_high]: [u8; 2] = a.to_bytes();
+    let [b_low, b_high]: [u8; 2] = b.to_bytes();
+    put_command(m, &[a_low, a_high, b_low, b_high], 4, buffer)
 }
 
 // A command whose payload stands in a body.
@@ -77,17 +66,14 @@ pub fn write_answer<'a>(
     share: &'a [u8],
     image: &'a [u8],
     answer: &mut [u8],
-) -> Written
+) -> Result<usize, BufferTooShort>
     ensures told { told_written result ≡ answer_written (told_reply r share.now image.now) answer.old }
     ensures left { answer.new ≡ answer_left (told_reply r share.now image.now) answer.old }
 {
-    if answer.len() < 1468 {
-        return Written::BufferTooShort;
+    if answer.len() < ANSWER_MIN {
+        return Err(BufferTooShort);
     }
-    let h = r.header;
-    let m = r.command;
-    let body = r.body;
-    sequence::serialize(h, answer);
-    let n = put_body(m, body, share, image, &mut answer[4..]);
-    Written::Bytes(4 + n)
+    let _ = sequence::serialize(r.header, answer);
+    let n = put_body(r.command, r.body, share, image, &mut answer[4..]);
+    Ok(4 + n)
 }

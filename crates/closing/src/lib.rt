@@ -1,13 +1,13 @@
 // What a command's answer does to a connection after it (sequence_handler.rs): an answer that ends its transfer closes, and the answer gets its header.
 #![tactic(auto)]
 
-ghost use Rattle.std.specs.Prelude.{◌≡◌, List, true, false, ◌||◌, ℕ};
+ghost use Rattle.std.specs.Prelude.{◌≡◌, List, ◌||◌, ℕ};
 ghost use Rattle.picks.specs.Pick.{pick};
 ghost use Rattle.protocol.specs.TransferRecord.{told_action};
 ghost use Rattle.protocol.specs.ConnectionRecord.{told_handled, is_opening, ends, settle, answered};
 
 use protocol::{
-    Action, Connection, Deadline, Handled, SdoClientInfo, SdoResponseData, SdoServerState,
+    Action, Connection, Left, Refusal, SdoClientInfo, SdoResponseData, SdoServerState,
     SdoTransferState, Segmentation, SendConnState, SequenceLayerHeader,
 };
 
@@ -15,58 +15,42 @@ use protocol::{
 pub fn is_opening(s: SdoServerState) -> bool
     ensures { result ≡ is_opening s }
 {
-    match s {
-        SdoServerState::Closed => false,
-        SdoServerState::Opening => true,
-        SdoServerState::Established => false,
-        SdoServerState::SegmentedDownload(t) => false,
-        SdoServerState::SegmentedUpload(t) => false,
-    }
+    matches!(s, SdoServerState::Opening)
 }
 
 // Whether an answer ends its transfer.
 fn ends(kind: Segmentation, aborted: bool) -> bool
     ensures { result ≡ (ends kind || aborted) }
 {
-    match kind {
-        Segmentation::Expedited => true,
-        Segmentation::Initiate => aborted,
-        Segmentation::Segment => aborted,
-        Segmentation::Complete => true,
-    }
+    (kind == Segmentation::Expedited) | (kind == Segmentation::Complete) | aborted
 }
 
 // An answer that ends its transfer closes, but for the state Opening.
+#[tactic(auto, unfolding(protocol::specs::ConnectionRecord::settle, picks::specs::Pick::pick))]
 pub fn settle(a: Action) -> Action
     ensures { (share image : List ℕ) → told_action result share image ≡ settle (told_action a share image) }
 {
     let c = a.connection;
-    let s = c.state;
-    let m = a.command;
-    let body = a.body;
-    let h = m.header;
-    let kind = h.segmentation;
-    if is_opening(s) {
-        return a;
-    }
-    if ends(kind, h.aborted) {
+    let h = a.command.header;
+    if !is_opening(c.state) & ends(h.segmentation, h.aborted) {
         return Action {
             connection: state::with_state(c, SdoServerState::Closed),
-            command: m,
-            body: body,
+            ..a
         };
     }
     a
 }
 
 // The send mark of an answer.
+#[tactic(auto, unfolding(picks::specs::Pick::pick))]
 fn answer_mark(aborted: bool, mark: SendConnState) -> SendConnState
     ensures { result ≡ pick aborted SendConnState.NoConnection mark }
 {
     if aborted {
-        return SendConnState::NoConnection;
+        SendConnState::NoConnection
+    } else {
+        mark
     }
-    mark
 }
 
 // A client made anew of its parts, as the next four are: see `rebuilt`.
@@ -83,12 +67,12 @@ fn rebuilt_client(client: SdoClientInfo) -> SdoClientInfo
 }
 
 // A deadline.
-fn rebuilt_deadline(d: Deadline) -> Deadline
+fn rebuilt_deadline(d: Option<u64>) -> Option<u64>
     ensures { result ≡ d }
 {
     match d {
-        Deadline::NoDeadline => Deadline::NoDeadline,
-        Deadline::At(time) => Deadline::At(time),
+        None => None,
+        Some(time) => Some(time),
     }
 }
 
@@ -143,28 +127,22 @@ pub fn rebuilt(c: Connection) -> Connection
 }
 
 // The answer under the sequence step's header, with the receive number after the call.
-pub fn answered(r: SequenceLayerHeader, a: Action) -> Handled
+#[tactic(auto, unfolding(protocol::specs::ConnectionRecord::answered, picks::specs::Pick::pick))]
+pub fn answered(r: SequenceLayerHeader, a: Action) -> Left<Result<SdoResponseData, Refusal>>
     ensures { (share image : List ℕ) → told_handled result share image ≡ answered r (told_action a share image) }
 {
-    let left = a.connection;
-    let c = rebuilt(left);
-    let m = a.command;
-    let body = a.body;
-    let h = m.header;
-    let rcon = r.rcon;
-    let scon = r.scon;
+    let connection = rebuilt(a.connection);
     let header = SequenceLayerHeader {
-        receive: c.receive,
-        rcon: rcon,
-        send: r.send,
-        scon: answer_mark(h.aborted, scon),
+        receive: connection.receive,
+        scon: answer_mark(a.command.header.aborted, r.scon),
+        ..r
     };
-    Handled::Answered(
-        c,
-        SdoResponseData {
-            header: header,
-            command: m,
-            body: body,
-        },
-    )
+    Left {
+        connection,
+        said: Ok(SdoResponseData {
+            header,
+            command: a.command,
+            body: a.body,
+        }),
+    }
 }

@@ -4,25 +4,24 @@
 ghost use Rattle.std.specs.Prelude.{◌≡◌, ◌+◌, ◌*◌, ◌%◌, ◌<◌};
 ghost use Rattle.octets.specs.Octets.{splice};
 ghost use Rattle.protocol.specs.Coding.{put, written, told_written};
-ghost use Rattle.protocol.specs.Command.{flag_places, flags_byte, bit, total_bytes, total_of, fixed_header, header_of, payload_of, with_payload, encode_command, decode_with, decode_command, told_command};
+ghost use Rattle.protocol.specs.Command.{flag_places, flags_byte, total_bytes, total_of, fixed_header, header_of, payload_of, with_payload, encode_command, decode_with, decode_command, told_command};
 
 use protocol::{
-    CommandId, CommandLayerHeader, CommandRead, DataSize, IdRead, SdoCommand, Segmentation, Written,
+    BufferTooShort, CommandError, CommandId, CommandLayerHeader, SdoCommand, Segmentation,
 };
 
 // The total that a header of these bytes carries.
-fn total_of(s: Segmentation, buffer: &[u8]) -> DataSize
+fn total_of(s: Segmentation, buffer: &[u8]) -> Option<u32>
     ensures { result ≡ total_of s buffer.now }
 {
-    match s {
-        Segmentation::Expedited => DataSize::NoSize,
-        Segmentation::Initiate => DataSize::Size(octets::u32_at(buffer, 8)),
-        Segmentation::Segment => DataSize::NoSize,
-        Segmentation::Complete => DataSize::NoSize,
+    if s == Segmentation::Initiate {
+        return Some(octets::number_at::<u32, _>(buffer, 8));
     }
+    None
 }
 
 // The fixed header of these bytes, its id given.
+#[tactic(auto, unfolding(protocol::specs::Command::flag_places))]
 fn header_of(id: CommandId, buffer: &[u8]) -> CommandLayerHeader
     ensures { result ≡ header_of flag_places id buffer.now }
 {
@@ -31,43 +30,39 @@ fn header_of(id: CommandId, buffer: &[u8]) -> CommandLayerHeader
         transaction: octets::byte_at(buffer, 1),
         response: flags / 16 % 2 == 1,
         aborted: flags / 32 % 2 == 1,
-        segmentation: fields::segmentation(flags / 64 % 4),
-        id: id,
-        size: octets::u16_at(buffer, 4),
+        segmentation: Segmentation::from(flags / 64 % 4),
+        id,
+        size: octets::number_at(buffer, 4),
     }
 }
 
 // What the bytes are, their fixed header given: the total and the payload must be there whole.
-fn with_header(h: CommandLayerHeader, buffer: &[u8]) -> CommandRead
+fn with_header(h: CommandLayerHeader, buffer: &[u8]) -> Result<SdoCommand, CommandError>
     ensures { told_command buffer.now result ≡ decode_with h buffer.now }
 {
     let s = h.segmentation;
     let n = fields::header_length(s);
     if buffer.len() < n {
-        return CommandRead::BufferTooShort;
+        return Err(CommandError::BufferTooShort);
     }
     if buffer.len() - n < (h.size as usize) {
-        return CommandRead::Undecodable;
+        return Err(CommandError::Undecodable);
     }
-    let total = total_of(s, buffer);
-    CommandRead::Command(SdoCommand {
+    Ok(SdoCommand {
         header: h,
-        total: total,
+        total: total_of(s, buffer),
     })
 }
 
 // The command at the start of these bytes; those after its payload are ignored.
-pub fn deserialize(buffer: &[u8]) -> CommandRead
+pub fn deserialize(buffer: &[u8]) -> Result<SdoCommand, CommandError>
     ensures { told_command buffer.now result ≡ decode_command flag_places buffer.now }
 {
     if buffer.len() < 8 {
-        return CommandRead::BufferTooShort;
+        return Err(CommandError::BufferTooShort);
     }
-    let id = fields::command_id(buffer[3]);
-    match id {
-        IdRead::Id(i) => with_header(header_of(i, buffer), buffer),
-        IdRead::InvalidEnumValue => CommandRead::Undecodable,
-    }
+    let id = CommandId::try_from(buffer[3])?;
+    with_header(header_of(id, buffer), buffer)
 }
 
 // The payload of a command that was read from these bytes, as a part of them.
@@ -79,19 +74,13 @@ pub fn payload<'a>(h: CommandLayerHeader, buffer: &'a [u8]) -> &'a [u8]
     octets::part(buffer, fields::header_length(s), size)
 }
 
-// A flag as a number.
-fn bit_of(b: bool) -> u8
-    ensures { result ≡ bit b }
-{
-    if b { 1 } else { 0 }
-}
-
 // Byte 2 of a command.
+#[tactic(auto, unfolding(protocol::specs::Command::flag_places))]
 fn flags(h: CommandLayerHeader) -> u8
     ensures { result ≡ flags_byte flag_places h.response h.aborted h.segmentation }
 {
     let s = h.segmentation;
-    bit_of(h.response) * 16 + bit_of(h.aborted) * 32 + fields::segmentation_number(s) * 64
+    u8::from(h.response) * 16 + u8::from(h.aborted) * 32 + u8::from(s) * 64
 }
 
 // Writes the fixed header at the start of the buffer.
@@ -104,7 +93,7 @@ fn put_header(h: CommandLayerHeader, buffer: &mut [u8])
         0,
         h.transaction,
         flags(h),
-        fields::id_byte(id),
+        u8::from(id),
         (size % 256) as u8,
         (size / 256 % 256) as u8,
         0,
@@ -114,14 +103,12 @@ fn put_header(h: CommandLayerHeader, buffer: &mut [u8])
 }
 
 // Writes the total of an Initiate behind the fixed header.
-fn put_total(s: Segmentation, d: DataSize, buffer: &mut [u8])
+#[tactic(auto, using(octets::proofs::Splice::splice_none))]
+fn put_total(s: Segmentation, d: Option<u32>, buffer: &mut [u8])
     ensures { buffer.new ≡ splice 8 (total_bytes s d) buffer.old }
 {
-    match s {
-        Segmentation::Expedited => {}
-        Segmentation::Initiate => octets::store_u32(buffer, 8, fields::total_number(d)),
-        Segmentation::Segment => {}
-        Segmentation::Complete => {}
+    if s == Segmentation::Initiate {
+        octets::store(buffer, 8, d.unwrap_or(0));
     }
 }
 
@@ -138,7 +125,7 @@ pub fn store(c: SdoCommand, payload: &[u8], buffer: &mut [u8])
 }
 
 // Writes the command with its payload at the start of the buffer, whose other bytes stay. A buffer that is too short stays whole.
-pub fn serialize(c: SdoCommand, payload: &[u8], buffer: &mut [u8]) -> Written
+pub fn serialize(c: SdoCommand, payload: &[u8], buffer: &mut [u8]) -> Result<usize, BufferTooShort>
     ensures told { told_written result ≡ written (encode_command flag_places (with_payload c payload.now)) buffer.old }
     ensures left { buffer.new ≡ put (encode_command flag_places (with_payload c payload.now)) buffer.old }
 {
@@ -146,11 +133,11 @@ pub fn serialize(c: SdoCommand, payload: &[u8], buffer: &mut [u8]) -> Written
     let s = h.segmentation;
     let n = fields::header_length(s);
     if buffer.len() < n {
-        return Written::BufferTooShort;
+        return Err(BufferTooShort);
     }
     if buffer.len() - n < payload.len() {
-        return Written::BufferTooShort;
+        return Err(BufferTooShort);
     }
     store(c, payload, buffer);
-    Written::Bytes(n + payload.len())
+    Ok(n + payload.len())
 }

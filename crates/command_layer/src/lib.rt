@@ -8,8 +8,8 @@ ghost use Rattle.protocol.specs.TransferRecord.{told_action, aborts, write_by_in
 ghost use Rattle.protocol.specs.ConnectionRecord.{nil, dispatch, command_in, command_layer, on_decoding};
 
 use protocol::{
-    Action, Body, CommandId, CommandLayerHeader, CommandRead, Connection, DataSize, SdoCommand,
-    SdoServerState, Segmentation,
+    AbortCode, Action, Body, CommandId, CommandLayerHeader, Connection, SdoCommand, SdoServerState,
+    Segmentation,
 };
 
 // A Nil command with no payload.
@@ -19,17 +19,18 @@ pub fn nil(response: bool, aborted: bool) -> SdoCommand
     SdoCommand {
         header: CommandLayerHeader {
             transaction: 0,
-            response: response,
-            aborted: aborted,
+            response,
+            aborted,
             segmentation: Segmentation::Expedited,
             id: CommandId::Nil,
             size: 0,
         },
-        total: DataSize::NoSize,
+        total: None,
     }
 }
 
 // Acts on a command that no upload bars, by its id; the ids that nobody serves are answered as Abort is.
+#[tactic(auto, unfolding(protocol::specs::ConnectionRecord::dispatch))]
 fn dispatch(
     c: Connection,
     share: &mut [u8],
@@ -41,23 +42,22 @@ fn dispatch(
     ensures { told_action result share.new image.new ≡ dispatch c share.old image.old clock m.header.id (with_payload m payload.now) }
 {
     let h = m.header;
-    let id = h.id;
-    match id {
+    match h.id {
         CommandId::Nil => handlers::acknowledge(c, h.transaction),
         CommandId::ReadByIndex => {
             handlers::read_by_index(c, share, image, clock, h.transaction, payload)
         }
         CommandId::WriteByIndex => write_command(c, share, image, clock, m, payload),
         CommandId::MaxSegmentSize => handlers::max_segment_size(c, h.transaction, payload),
-        CommandId::Abort => invalid_command(c, h.transaction),
-        CommandId::WriteAllByIndex => invalid_command(c, h.transaction),
-        CommandId::ReadAllByIndex => invalid_command(c, h.transaction),
-        CommandId::WriteByName => invalid_command(c, h.transaction),
-        CommandId::ReadByName => invalid_command(c, h.transaction),
-        CommandId::FileWrite => invalid_command(c, h.transaction),
-        CommandId::FileRead => invalid_command(c, h.transaction),
-        CommandId::WriteMultipleParamByIndex => invalid_command(c, h.transaction),
-        CommandId::ReadMultipleParamByIndex => invalid_command(c, h.transaction),
+        CommandId::Abort
+        | CommandId::WriteAllByIndex
+        | CommandId::ReadAllByIndex
+        | CommandId::WriteByName
+        | CommandId::ReadByName
+        | CommandId::FileWrite
+        | CommandId::FileRead
+        | CommandId::WriteMultipleParamByIndex
+        | CommandId::ReadMultipleParamByIndex => invalid_command(c, h.transaction),
     }
 }
 
@@ -65,7 +65,7 @@ fn dispatch(
 fn invalid_command(c: Connection, transaction: u8) -> Action
     ensures { (share image : List ℕ) → told_action result share image ≡ aborts c share image transaction INVALID_COMMAND }
 {
-    handlers::abort(c, transaction, 0x05040001)
+    handlers::abort(c, transaction, u32::from(AbortCode::InvalidCommand))
 }
 
 // A WriteByIndex.
@@ -80,13 +80,21 @@ fn write_command(
     ensures { told_action result share.new image.new ≡ write_by_index c share.old image.old clock m.header.transaction m.header.segmentation (total_number m.total) payload.now }
 {
     let h = m.header;
-    let kind = h.segmentation;
-    let size = m.total;
-    let total = fields::total_number(size);
-    downloads::write_by_index(c, share, image, clock, h.transaction, kind, total, payload)
+    let total = m.total.unwrap_or(0);
+    downloads::write_by_index(
+        c,
+        share,
+        image,
+        clock,
+        h.transaction,
+        h.segmentation,
+        total,
+        payload,
+    )
 }
 
 // A command by the record's state.
+#[tactic(auto, unfolding(protocol::specs::ConnectionRecord::command_in))]
 fn command_in(
     c: Connection,
     share: &mut [u8],
@@ -97,17 +105,14 @@ fn command_in(
 ) -> Action
     ensures { told_action result share.new image.new ≡ command_in c share.old image.old clock c.state (with_payload m payload.now) }
 {
-    let s = c.state;
-    match s {
-        SdoServerState::Closed => dispatch(c, share, image, clock, m, payload),
-        SdoServerState::Opening => dispatch(c, share, image, clock, m, payload),
-        SdoServerState::Established => dispatch(c, share, image, clock, m, payload),
-        SdoServerState::SegmentedDownload(t) => dispatch(c, share, image, clock, m, payload),
-        SdoServerState::SegmentedUpload(t) => uploads::upload_command(c, image, clock, t, m),
+    if let SdoServerState::SegmentedUpload(t) = c.state {
+        return uploads::upload_command(c, image, clock, t, m);
     }
+    dispatch(c, share, image, clock, m, payload)
 }
 
 // The command layer. The client's own abort is answered by an empty aborted Nil and resets no number.
+#[tactic(auto, unfolding(protocol::specs::ConnectionRecord::command_layer, picks::specs::Pick::pick))]
 pub fn process_command_layer(
     c: Connection,
     share: &mut [u8],
@@ -118,8 +123,7 @@ pub fn process_command_layer(
 ) -> Action
     ensures { told_action result share.new image.new ≡ command_layer c share.old image.old clock (with_payload m payload.now) }
 {
-    let h = m.header;
-    if h.aborted {
+    if m.header.aborted {
         return Action {
             connection: state::with_state(c, SdoServerState::Established),
             command: nil(false, true),
@@ -130,6 +134,7 @@ pub fn process_command_layer(
 }
 
 // The bytes of a command: what the command layer makes of them, or the abort of an undecodable one.
+#[tactic(auto, unfolding(protocol::specs::ConnectionRecord::on_decoding))]
 pub fn command_bytes(
     c: Connection,
     share: &mut [u8],
@@ -139,17 +144,9 @@ pub fn command_bytes(
 ) -> Action
     ensures { told_action result share.new image.new ≡ on_decoding c share.old image.old clock body.now (decode_command flag_places body.now) }
 {
-    let read = command::deserialize(body);
-    match read {
-        CommandRead::Command(m) => {
-            let payload = command::payload(m.header, body);
-            process_command_layer(c, share, image, clock, m, payload)
-        }
-        CommandRead::BufferTooShort => {
-            handlers::abort(c, fields::undecodable_transaction(body), 0x05040001)
-        }
-        CommandRead::Undecodable => {
-            handlers::abort(c, fields::undecodable_transaction(body), 0x05040001)
-        }
-    }
+    let Ok(m) = command::deserialize(body) else {
+        return invalid_command(c, fields::undecodable_transaction(body));
+    };
+    let payload = command::payload(m.header, body);
+    process_command_layer(c, share, image, clock, m, payload)
 }

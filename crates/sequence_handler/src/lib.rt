@@ -4,25 +4,26 @@
 ghost use Rattle.std.specs.Prelude.{◌≡◌, List, true, false, ◌||◌, ℕ, eqb};
 ghost use Rattle.protocol.specs.SequenceHeader.{send_mark, command_part};
 ghost use Rattle.protocol.specs.TransferRecord.{told_action};
-ghost use Rattle.protocol.specs.ConnectionRecord.{told_handled, before_step, sequence_step, nil, is_opening, empty_in, empty_frame, after_step, on_step, on_before, serve};
+ghost use Rattle.protocol.specs.Coding.{refused, value, refusal_number};
+ghost use Rattle.protocol.specs.ConnectionRecord.{told_handled, told_reply, before_step, sequence_step, nil, is_opening, empty_in, empty_frame, after_step, on_step, on_before, serve};
 ghost use Rattle.protocol.specs.ConnectionTable.{told_record_ticked, tick_record};
 
 use protocol::{
-    Action, Body, Connection, Handled, HeaderRead, RecordTicked, Refusal, Resend, SdoResponseData,
-    SdoServerState, SendConnState, SequenceLayerHeader, Step,
+    Action, Body, Connection, Left, ReceiveConnState, Refusal, SdoResponseData, SdoServerState,
+    SendConnState, SequenceLayerHeader,
 };
 
 // What an empty frame does that is no fault: an upload's next piece, or a Nil.
+#[tactic(auto, unfolding(protocol::specs::ConnectionRecord::empty_in))]
 fn empty_in(c: Connection, image: &[u8], clock: u64) -> Action
     ensures { (share : List ℕ) (h k : SequenceLayerHeader) → told_action result share image.now ≡ empty_in c share image.now clock h k c.state }
 {
-    let s = c.state;
-    match s {
-        SdoServerState::Closed => empty_answer(c),
-        SdoServerState::Opening => empty_answer(c),
+    match c.state {
         SdoServerState::Established => empty_answer(state::with_state(c, SdoServerState::Closed)),
-        SdoServerState::SegmentedDownload(t) => empty_answer(c),
         SdoServerState::SegmentedUpload(t) => state::advance(c, image, clock, t),
+        SdoServerState::Closed | SdoServerState::Opening | SdoServerState::SegmentedDownload(_) => {
+            empty_answer(c)
+        }
     }
 }
 
@@ -41,31 +42,48 @@ fn empty_answer(c: Connection) -> Action
 fn may_be_empty(s: SdoServerState, mark: SendConnState) -> bool
     ensures { result ≡ (is_opening s || eqb (send_mark mark) 2) }
 {
-    if closing::is_opening(s) {
-        return true;
+    closing::is_opening(s) | (mark == SendConnState::ConnectionValid)
+}
+
+// What is left of a record whose request is answered.
+fn answered(connection: Connection, r: SdoResponseData) -> Left<Result<SdoResponseData, Refusal>>
+    ensures { (share image : List ℕ) → told_handled result share image ≡ record { connection = connection; share = share; image = image; said = value (told_reply r share image) } }
+{
+    Left {
+        connection,
+        said: Ok(r),
     }
-    sequence::send_mark(mark) == 2
+}
+
+// What is left of a record whose request is refused.
+fn refused(connection: Connection, x: Refusal) -> Left<Result<SdoResponseData, Refusal>>
+    ensures { (share image : List ℕ) → told_handled result share image ≡ record { connection = connection; share = share; image = image; said = refused (refusal_number x) } }
+{
+    Left {
+        connection,
+        said: Err(x),
+    }
 }
 
 // A frame with no command.
+#[tactic(auto, unfolding(protocol::specs::ConnectionRecord::empty_frame, picks::specs::Pick::pick))]
 fn empty_frame(
     c: Connection,
     image: &[u8],
     clock: u64,
     h: SequenceLayerHeader,
     r: SequenceLayerHeader,
-) -> Handled
+) -> Left<Result<SdoResponseData, Refusal>>
     ensures { (share : List ℕ) → told_handled result share image.now ≡ empty_frame c share image.now clock h r }
 {
-    let s = c.state;
-    let mark = h.scon;
-    if may_be_empty(s, mark) {
+    if may_be_empty(c.state, h.scon) {
         return closing::answered(r, empty_in(c, image, clock));
     }
-    Handled::Refused(c, Refusal::EmptyCommand)
+    refused(c, Refusal::EmptyCommand)
 }
 
 // After the sequence step: the command layer, the closing and the answer's header. On receive mark 3 no command is looked at.
+#[tactic(auto, unfolding(protocol::specs::ConnectionRecord::after_step, picks::specs::Pick::pick))]
 pub fn after_step(
     c: Connection,
     share: &mut [u8],
@@ -74,21 +92,18 @@ pub fn after_step(
     h: SequenceLayerHeader,
     r: SequenceLayerHeader,
     body: &[u8],
-) -> Handled
+) -> Left<Result<SdoResponseData, Refusal>>
     ensures { told_handled result share.new image.new ≡ after_step c share.old image.old clock h r body.now }
 {
-    let mark = h.rcon;
-    if sequence::receive_mark(mark) == 3 {
-        return Handled::Answered(
-            c,
-            SdoResponseData {
-                header: r,
-                command: command_layer::nil(false, false),
-                body: Body::Nothing,
-            },
-        );
+    if h.rcon == ReceiveConnState::ErrorResponse {
+        let nil = SdoResponseData {
+            header: r,
+            command: command_layer::nil(false, false),
+            body: Body::Nothing,
+        };
+        return answered(c, nil);
     }
-    if body.len() == 0 {
+    if body.is_empty() {
         return empty_frame(c, image, clock, h, r);
     }
     closing::answered(
@@ -98,6 +113,7 @@ pub fn after_step(
 }
 
 // From the sequence step on.
+#[tactic(auto, unfolding(protocol::specs::ConnectionRecord::on_step))]
 fn on_step(
     c: Connection,
     share: &mut [u8],
@@ -105,25 +121,21 @@ fn on_step(
     clock: u64,
     h: SequenceLayerHeader,
     body: &[u8],
-) -> Handled
+) -> Left<Result<SdoResponseData, Refusal>>
     ensures { (request : List ℕ) → body.now ≡ command_part request → told_handled result share.new image.new ≡ on_step c share.old image.old clock request h (sequence_step c h) }
 {
     let step = stepping::sequence_step(c, h);
-    match step {
-        Step::Stepped(next, r) => after_step(
-            closing::rebuilt(next),
-            share,
-            image,
-            clock,
-            h,
-            r,
-            body,
-        ),
-        Step::Misfit(next) => Handled::Refused(next, Refusal::Sequence),
+    match step.said {
+        Ok(r) => {
+            let next = closing::rebuilt(step.connection);
+            after_step(next, share, image, clock, h, r, body)
+        }
+        Err(misfit) => refused(step.connection, Refusal::from(misfit)),
     }
 }
 
 // A frame whose header is read: before the step, the step, and after it.
+#[tactic(auto, unfolding(protocol::specs::ConnectionRecord::on_before))]
 fn with_header(
     c: Connection,
     share: &mut [u8],
@@ -131,45 +143,40 @@ fn with_header(
     clock: u64,
     h: SequenceLayerHeader,
     body: &[u8],
-) -> Handled
+) -> Left<Result<SdoResponseData, Refusal>>
     ensures { (request : List ℕ) → body.now ≡ command_part request → told_handled result share.new image.new ≡ on_before c share.old image.old clock request h (before_step c share.old h) }
 {
-    let before = sequence_layer::before_step(c, h);
-    match before {
-        Resend::Resends(r) => Handled::Answered(c, r),
-        Resend::GoesOn => on_step(c, share, image, clock, h, body),
+    match sequence_layer::before_step(c, h) {
+        Some(r) => answered(c, r),
+        None => on_step(c, share, image, clock, h, body),
     }
 }
 
 // A whole request on one record.
+#[tactic(auto, unfolding(protocol::specs::ConnectionRecord::serve, protocol::specs::ConnectionRecord::on_header))]
 pub fn handle_request(
     c: Connection,
     share: &mut [u8],
     image: &mut [u8],
     clock: u64,
     request: &[u8],
-) -> Handled
+) -> Left<Result<SdoResponseData, Refusal>>
     ensures { told_handled result share.new image.new ≡ serve c share.old image.old clock request.now }
 {
-    let read = sequence::deserialize(request);
-    match read {
-        HeaderRead::Header(h) => {
-            with_header(c, share, image, clock, h, sequence::command_part(request))
-        }
-        HeaderRead::BufferTooShort => Handled::Refused(c, Refusal::Short),
-    }
+    let Ok(h) = sequence::deserialize(request) else {
+        return refused(c, Refusal::Short);
+    };
+    with_header(c, share, image, clock, h, sequence::command_part(request))
 }
 
 // A tick on a record that is due.
-pub fn tick(c: Connection, image: &[u8], clock: u64) -> RecordTicked
+#[tactic(auto, unfolding(protocol::specs::ConnectionTable::tick_record, protocol::specs::ConnectionTable::tick_in))]
+pub fn tick(c: Connection, image: &[u8], clock: u64) -> Option<Left<SdoResponseData>>
     ensures { (share : List ℕ) → told_record_ticked result share image.now ≡ tick_record c share image.now clock }
 {
-    let s = c.state;
-    match s {
-        SdoServerState::Closed => RecordTicked::Nothing,
-        SdoServerState::Opening => RecordTicked::Nothing,
-        SdoServerState::Established => RecordTicked::Nothing,
-        SdoServerState::SegmentedDownload(t) => timeouts::times_out(c, t),
-        SdoServerState::SegmentedUpload(t) => timeouts::tick_upload(c, image, clock, t),
+    match c.state {
+        SdoServerState::SegmentedDownload(t) => Some(timeouts::times_out(c, t)),
+        SdoServerState::SegmentedUpload(t) => Some(timeouts::tick_upload(c, image, clock, t)),
+        SdoServerState::Closed | SdoServerState::Opening | SdoServerState::Established => None,
     }
 }

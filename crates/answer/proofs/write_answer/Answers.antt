@@ -14,9 +14,9 @@ use Rattle.picks.proofs.Picks.{pick_t}
 use native.Mathlib.Omega.{arith}
 use Rattle.answer.proofs.write_answer.Goals as goal
 
-pub returns-then-answer-lt1468 : goal.returns-then-answer-lt1468
+pub returns-then-answer-lt-ANSWER_MIN : goal.returns-then-answer-lt-ANSWER_MIN
 unfolding ANSWER_MIN
-returns-then-answer-lt1468 c = record { told = pick_t _ _ _ _ (lt-ltb _ _ c.if-answer-lt1468.true) refl; left = pick_t _ _ _ _ (lt-ltb _ _ c.if-answer-lt1468.true) refl }
+returns-then-answer-lt-ANSWER_MIN c = record { told = pick_t _ _ _ _ (lt-ltb _ _ c.if-answer-lt-ANSWER_MIN.true) refl; left = pick_t _ _ _ _ (lt-ltb _ _ c.if-answer-lt-ANSWER_MIN.true) refl }
 
 pub returns : goal.returns
 unfolding ANSWER_MIN frame encode_header
@@ -26,4 +26,4 @@ returns c =
     let b = c.put_body-n.ensures in
     let l = frame_length r in
     let n = b.size.0 in
-    record { told = pick_f _ _ _ _ (le-ltb _ _ c.if-answer-lt1468.false) (ap value (omega arith)); left = pick_f _ _ _ _ (le-ltb _ _ c.if-answer-lt1468.false) (laid_behind (encode_header a.r.header) _ a.answer.now _ _ refl (omega arith) c.serialize.ensures.left b.bytes) }
+    record { told = pick_f _ _ _ _ (le-ltb _ _ c.if-answer-lt-ANSWER_MIN.false) (ap value (omega arith)); left = pick_f _ _ _ _ (le-ltb _ _ c.if-answer-lt-ANSWER_MIN.false) (laid_behind (encode_header a.r.header) _ a.answer.now _ _ refl (omega arith) c.serialize.ensures.left b.bytes) }

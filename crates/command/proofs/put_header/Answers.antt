@@ -4,4 +4,4 @@ use Rattle.command.proofs.put_header.Goals as goal
 
 pub returns : goal.returns
 unfolding fixed_header le_bytes
-returns c = rw (← c.flags.ensures, ← c.id_byte.ensures) c.copy_at.ensures
+returns c = rw (← c.flags.ensures, ← c.from.ensures) c.copy_at.ensures

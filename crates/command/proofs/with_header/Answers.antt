@@ -16,4 +16,4 @@ pub returns : goal.returns
 returns c =
     let a = c.args in
     let e = c.header_length-n.ensures in
-    rw c.total_of-total.ensures (sym (decode_whole a.h a.buffer.now (omega arith)))
+    rw c.total_of.ensures (sym (decode_whole a.h a.buffer.now (omega arith)))
