@@ -1,3 +1,2 @@
 pub mod OtherLength
-pub mod Query
 pub mod Search

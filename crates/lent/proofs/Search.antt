@@ -1,85 +1,48 @@
--- The search with the index finds the place of the first due record, and a tick that looks there is the tick.
-use Prim.Native.Nat.{ℕ, suc, ◌+◌, ◌<◌, ◌≤◌}
+-- The search finds the place of the first due record, and a tick that looks there is the tick.
+use Prim.Native.Nat.{ℕ, suc, ◌+◌, ◌≤◌}
 use native.Mathlib.Omega.{arith}
-use mathlib.Core.Bool.{Bool, true, false, not}
-use mathlib.Core.Path.{◌≡◌, refl, sym, ap, ◌∙◌, subst}
-use mathlib.Core.List.{List, [], ◌∷◌}
-use lib.ListN.{length, get_or, drop, drop_of_length-le}
-use lib.Seq.{drop-cons}
-use native.Mathlib.Numerals.{add-one}
-use lib.Dec.{T, ltb, ltb→lt, nltb→le}
-use borrow.Author.Tests.{lt-ltb, le-ltb}
+use mathlib.Core.Bool.{Bool, true, false}
+use mathlib.Core.Path.{◌≡◌, refl, ◌∙◌}
+use mathlib.Core.List.{List}
+use lib.ListN.{length}
+use lib.Dec.{ltb}
+use borrow.Author.Tests.{ltb-false}
+use Rattle.std.specs.Prelude.{Option, Some, None, cond}
+use Rattle.std.specs.List.{position, position_or_len}
+use Rattle.std.proofs.lemmas.List.Recursion.{is_position_or_len}
 use Rattle.picks.specs.Pick.{pick, first}
-use Rattle.picks.proofs.Picks.{pick_t}
+use Rattle.picks.proofs.Keep.{by_test, first_le}
 use Rattle.protocol.specs.declared.Connection.{Connection}
-use Rattle.protocol.specs.Constants.{RECORDS}
 use Rattle.protocol.specs.ConnectionTable.{is_due, chosen}
 use Rattle.protocol.specs.Tick.{tick_of}
+use Rattle.table.specs.Row.{place_in}
 use Rattle.server.specs.Left.{tick_at_of}
 use Rattle.server.proofs.Calls.{tick_at_chosen}
-use Rattle.lent.specs.declared.Due.{Due}
-use Rattle.lent.specs.declared.Due.TheVariants.{Nobody, At}
-use Rattle.lent.specs.Lent.{due_in, better_of, due_place}
+use Rattle.lent.specs.Lent.{due_in}
 
--- of b and the records that stand from place i on
-unfoldable pub due_from : Due → ℕ → List Connection → ℕ → Due
-due_from b i [] k = b
-due_from b i (c ∷ cs) k = due_from (better_of b c i k) (i + 1) cs k
+first_position : {A : Type 0} (f : A → Bool) (xs : List A) → first f xs ≡ position_or_len f xs
+unfolding first pick
+first_position f xs = is_position_or_len (first f) f refl (λ y ys. turn (f y) (first f ys)) xs
+  where
+    turn : (b : Bool) (n : ℕ) → pick b 0 (suc n) ≡ cond b 0 (1 + n)
+    turn true n = refl
+    turn false n = omega arith
 
-found : (j i : ℕ) (cs : List Connection) (k : ℕ) → due_from (At j) i cs k ≡ At j
-unfolding due_from
-found j i [] k = refl
-found j i (c ∷ cs) k = found j (i + 1) cs k
+-- what std's `position` finds in a list of any length
+pub due_found : (clock : ℕ) (t : List Connection) (r : Option ℕ) → r ≡ position (is_due clock) t → r ≡ due_in (chosen t clock) (length t)
+unfolding chosen pick
+due_found clock t r e =
+    e ∙ (rw (first_position (is_due clock) t) (choice (ltb (position_or_len (is_due clock) t) (length t))))
+  where
+    choice : (b : Bool) → cond b (Some (position_or_len (is_due clock) t)) None ≡ pick b (Some (position_or_len (is_due clock) t)) None
+    choice true = refl
+    choice false = refl
 
-less_suc : (a b : ℕ) (y : Bool) → ltb a b ≡ y → ltb a b ≡ ltb (suc a) (suc b)
-less_suc a b true e = e ∙ sym (lt-ltb (suc a) (suc b) (let l = ltb→lt a b (subst T (sym e) tt) in omega arith))
-less_suc a b false e = e ∙ sym (le-ltb (suc a) (suc b) (let l = nltb→le a b (subst (λ (z : Bool). T (not z)) (sym e) tt) in omega arith))
-
-due_next : (i : ℕ) (cs : List Connection) (k : ℕ) (b : Bool) → due_from Nobody (i + 1) cs k ≡ pick (ltb (first (is_due k) cs) (length cs)) (At (i + 1 + first (is_due k) cs)) Nobody → due_from (pick b (At i) Nobody) (i + 1) cs k ≡ pick (ltb (pick b 0 (suc (first (is_due k) cs))) (suc (length cs))) (At (i + pick b 0 (suc (first (is_due k) cs)))) Nobody
+place_found : (i : ℕ) → i ≤ 8 → place_in (due_in i 8) ≡ i
 unfolding pick
-due_next i cs k true e = found i (i + 1) cs k ∙ pick_t (ltb 0 (suc (length cs))) (At i) (At (i + 0)) Nobody (lt-ltb 0 (suc (length cs)) (omega arith)) (ap At (omega arith))
-due_next i cs k false e =
-    let f = first (is_due k) cs in
-    e ∙ ap (λ (n : ℕ). pick (ltb f (length cs)) (At n) Nobody) (omega arith) ∙ ap (λ (y : Bool). pick y (At (i + suc f)) Nobody) (less_suc f (length cs) (ltb f (length cs)) refl)
+place_found i h = by_test (ltb i 8) (λ t. rw t) (λ t. rw t (omega (arith, ltb-false i 8 t)))
 
--- the place of the first due record among those from place i on, or nobody
-due_from_lem : (i : ℕ) (cs : List Connection) (k : ℕ) → due_from Nobody i cs k ≡ pick (ltb (first (is_due k) cs) (length cs)) (At (i + first (is_due k) cs)) Nobody
-unfolding due_from first pick
-due_from_lem i [] k = refl
-due_from_lem i (c ∷ cs) k = due_next i cs k (is_due k c) (due_from_lem (i + 1) cs k)
-
--- the search at its head, after a turn, and at its end
-module _ (cs : List Connection) (k : ℕ) (b : Due) (i : ℕ) (inv : due_from Nobody 0 cs k ≡ due_from b i (drop i cs) k) where
-  pub due_more : (d : Connection) → i < length cs → due_from Nobody 0 cs k ≡ due_from (better_of b (get_or cs i d) i k) (i + 1) (drop (i + 1) cs) k
-  unfolding due_from
-  due_more d h =
-      inv ∙ (rw (drop-cons cs i d h) (ap (λ (n : ℕ). due_from (better_of b (get_or cs i d) i k) (i + 1) (drop n cs) k) (sym (add-one i))))
-
-  pub due_end : length cs ≤ i → b ≡ due_from Nobody 0 cs k
-  unfolding due_from
-  due_end h = sym (inv ∙ (rw (drop_of_length-le cs h)))
-
-pub due_is : (cs : List Connection) (k : ℕ) → due_from Nobody 0 cs k ≡ due_in (chosen cs k) (length cs)
-unfolding chosen
-due_is cs k = due_from_lem 0 cs k ∙ ap (λ (n : ℕ). pick (ltb (first (is_due k) cs) (length cs)) (At n) Nobody) (omega arith)
-
--- the place that was found in a table of eight is the first due record's
-within_next : (b : Bool) (i n : ℕ) → i ≤ n → pick b 0 (suc i) ≤ suc n
-unfolding pick
-within_next true i n l = omega arith
-within_next false i n l = omega arith
-
-first_within : (k : ℕ) (cs : List Connection) → first (is_due k) cs ≤ length cs
-unfolding first
-first_within k [] = omega arith
-first_within k (c ∷ cs) = within_next (is_due k c) (first (is_due k) cs) (length cs) (first_within k cs)
-
-place_found : (i n : ℕ) → i ≤ n → n ≡ 8 → (y : Bool) → ltb i n ≡ y → due_place (pick y (At i) Nobody) ≡ i
-unfolding pick RECORDS
-place_found i n l e true f = refl
-place_found i n l e false f = let h = nltb→le i n (subst (λ (z : Bool). T (not z)) (sym f) tt) in omega arith
-
-pub tick_at_found : (clock : ℕ) (image answer : List ℕ) (table : List Connection) (area : List ℕ) → length table ≡ 8 → tick_at_of (due_place (due_in (chosen table clock) (length table))) clock image answer table area ≡ tick_of clock image answer table area
+pub tick_at_found : (clock : ℕ) (image answer : List ℕ) (table : List Connection) (area : List ℕ) → length table ≡ 8 → tick_at_of (place_in (due_in (chosen table clock) (length table))) clock image answer table area ≡ tick_of clock image answer table area
 unfolding chosen
 tick_at_found clock image answer table area e =
-    tick_at_chosen clock image answer table area _ (place_found (chosen table clock) (length table) (first_within clock table) e (ltb (chosen table clock) (length table)) refl)
+    tick_at_chosen clock image answer table area _ (rw e (place_found (chosen table clock) (rw (← e) (first_le (is_due clock) table))))

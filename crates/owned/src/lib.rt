@@ -6,17 +6,7 @@ ghost use Rattle.protocol.specs.Request.{told_requested, request_of};
 ghost use Rattle.protocol.specs.Tick.{told_ticked_row, tick_of};
 ghost use Rattle.protocol.specs.DeadlineQuery.{told_next_action, query_of};
 
-use protocol::{Connection, NextAction, Outcome, Requested, SdoClientInfo, Ticked, TickedRow};
-
-// An outcome, and the row after it.
-fn requested(outcome: Outcome, table: [Connection; 8]) -> Requested
-    ensures { result ≡ record { outcome = outcome; table = table } }
-{
-    Requested {
-        outcome: outcome,
-        table: table,
-    }
-}
+use protocol::{Answered, Called, Connection, Refusal, SdoClientInfo};
 
 // A request from a client.
 pub fn handle_request(
@@ -27,21 +17,14 @@ pub fn handle_request(
     client: SdoClientInfo,
     clock: u64,
     request: &[u8],
-) -> Requested
+) -> Called<Answered>
     ensures { told_requested result answer.new area.new image.new ≡ request_of client clock request.now image.old answer.old t area.old }
 {
     let mut row = t;
     let outcome = lent::handle_request(&mut row, area, image, answer, client, clock, request);
-    requested(outcome, row)
-}
-
-// What a tick returned, and the row after it.
-fn ticked(outcome: Ticked, table: [Connection; 8]) -> TickedRow
-    ensures { result ≡ record { outcome = outcome; table = table } }
-{
-    TickedRow {
-        outcome: outcome,
-        table: table,
+    Called {
+        outcome,
+        table: row,
     }
 }
 
@@ -52,16 +35,19 @@ pub fn tick<'a, 'b>(
     image: &'a [u8],
     answer: &'b mut [u8],
     clock: u64,
-) -> TickedRow
+) -> Called<Option<Answered>>
     ensures { told_ticked_row result answer.new area.now image.now ≡ tick_of clock image.now answer.old t area.now }
 {
     let mut row = t;
     let outcome = lent::tick(&mut row, area, image, answer, clock);
-    ticked(outcome, row)
+    Called {
+        outcome,
+        table: row,
+    }
 }
 
 // The earliest deadline.
-pub fn next_action_time(t: [Connection; 8]) -> NextAction
+pub fn next_action_time(t: [Connection; 8]) -> Result<Option<u64>, Refusal>
     ensures { told_next_action result ≡ query_of t }
 {
     lent::next_action_time(&t)

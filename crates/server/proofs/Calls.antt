@@ -10,17 +10,16 @@ use borrow.Author.Tests.{ne_eqb}
 use Rattle.picks.specs.Pick.{pick}
 use Rattle.protocol.specs.declared.SdoClientInfo.{SdoClientInfo}
 use Rattle.protocol.specs.declared.Connection.{Connection}
-use Rattle.protocol.specs.declared.Deadline.{Deadline}
-use Rattle.protocol.specs.declared.Deadline.TheVariants as D
+use Rattle.std.specs.Prelude.{Ok}
 use Rattle.protocol.specs.Constants.{SHARE, RECORDS, AREA}
-use Rattle.protocol.specs.Coding.{Answer, refused, value}
+use Rattle.protocol.specs.Coding.{Answer, refused}
 use Rattle.protocol.specs.ConnectionRecord.{Reply, Served, serve}
 use Rattle.protocol.specs.ConnectionTable.{fresh, sound_table, record_of, update, share_of, with_share, chosen, earliest, Ticking, ticks, tick_record}
 use Rattle.protocol.specs.Calls.{Verdict, refuse, accept, verdict, To, Called}
 use Rattle.protocol.specs.Request.{seated, answer_with, request_served, accepted}
 use Rattle.protocol.specs.Tick.{tick_tests, tick_told, tick_at, ticked, on_tick_verdict, tick_of}
 use Rattle.protocol.specs.DeadlineQuery.{told_next_action, query_tests, query_of}
-use Rattle.server.specs.Left.{next_action, on_tick_at, tick_at_of}
+use Rattle.server.specs.Left.{on_tick_at, tick_at_of}
 use Rattle.protocol.proofs.Requests.{Accepted, own_below, stored_sound}
 use Rattle.protocol.proofs.Ticks.{TickAccepted, answered_there, answered_used, lying_kept, set_lying}
 
@@ -88,13 +87,9 @@ module _ (clock : ℕ) (image answer : List ℕ) (table : List Connection) (area
   tick_at_chosen i e = ap (λ j. on_tick_at j clock image answer table area (verdict (tick_tests clock image answer table area))) e ∙ by_verdict (verdict (tick_tests clock image answer table area))
 
 -- the deadline query of a row of eight
-told_next : (d : Deadline) → told_next_action (next_action d) ≡ value d
-told_next D.NoDeadline = refl
-told_next (D.At n) = refl
-
-pub query_sound : (t : List Connection) → length t ≡ 8 → sound_table t ≡ true → told_next_action (next_action (earliest t)) ≡ query_of t
+pub query_sound : (t : List Connection) → length t ≡ 8 → sound_table t ≡ true → told_next_action (Ok (earliest t)) ≡ query_of t
 unfolding query_of query_tests verdict pick RECORDS
-query_sound t e s = rw (told_next (earliest t), e, s) refl
+query_sound t e s = rw (e, s) refl
 
 pub query_unsound : (t : List Connection) → length t ≡ 8 → sound_table t ≡ false → refused 3 ≡ query_of t
 unfolding query_of query_tests verdict pick RECORDS

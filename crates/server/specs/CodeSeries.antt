@@ -1,10 +1,10 @@
 -- Demand 3 about the code: a series of its calls, each with what it returned and left, as the function's contract says.
-use Rattle.std.specs.Prelude.{ℕ, ◌≡◌, List, [], ◌∷◌, ◌++◌}
+use Rattle.std.specs.Prelude.{ℕ, ◌≡◌, List, [], ◌∷◌, ◌++◌, Option, Result}
 use Prim.{Unit}
 use Rattle.protocol.specs.declared.SdoClientInfo.{SdoClientInfo}
-use Rattle.protocol.specs.declared.Requested.{Requested}
-use Rattle.protocol.specs.declared.TickedRow.{TickedRow}
-use Rattle.protocol.specs.declared.NextAction.{NextAction}
+use Rattle.protocol.specs.declared.Answered.{Answered}
+use Rattle.protocol.specs.declared.Called.{Called}
+use Rattle.protocol.specs.declared.Refusal.{Refusal}
 use Rattle.protocol.specs.Request.{told_outcome, told_requested, request_of}
 use Rattle.protocol.specs.Tick.{told_ticked, told_ticked_row, tick_of}
 use Rattle.protocol.specs.DeadlineQuery.{told_next_action, query_of}
@@ -12,9 +12,9 @@ use Rattle.protocol.specs.Series.{Call, request, tick, query, Server, held_by, S
 
 -- a call of `handle_request`, `tick` or `next_action_time`: what it was lent, what it returned, and what it left of the answer buffer, the area and the image
 pub data Turn : Type 0 where
-  requested : SdoClientInfo → ℕ → List ℕ → List ℕ → List ℕ → Requested → List ℕ → List ℕ → List ℕ → Turn
-  ticked : ℕ → List ℕ → List ℕ → TickedRow → List ℕ → Turn
-  queried : NextAction → Turn
+  requested : SdoClientInfo → ℕ → List ℕ → List ℕ → List ℕ → Called Answered → List ℕ → List ℕ → List ℕ → Turn
+  ticked : ℕ → List ℕ → List ℕ → Called (Option Answered) → List ℕ → Turn
+  queried : Result (Option ℕ) Refusal → Turn
 
 abbrev pub call_of : Turn → Call
 call_of (requested client clock bytes image answer r answer' area' image') = request client clock bytes image answer

@@ -1,13 +1,9 @@
--- What an answered request and a tick that answers leave, from the row and the record before it is stored; a deadline as an answer.
+-- What an answered request and a tick that answers leave, from the row and the record before it is stored.
 use Rattle.std.specs.Prelude.{ℕ, ◌+◌, ◌*◌, Bool, List, length, set, leb}
 use Rattle.picks.specs.Pick.{pick}
 use Rattle.octets.specs.Octets.{splice}
 use Rattle.protocol.specs.declared.SdoClientInfo.{SdoClientInfo}
 use Rattle.protocol.specs.declared.Connection.{Connection}
-use Rattle.protocol.specs.declared.Deadline.{Deadline}
-use Rattle.protocol.specs.declared.Deadline.TheVariants as D
-use Rattle.protocol.specs.declared.NextAction.{NextAction}
-use Rattle.protocol.specs.declared.NextAction.TheVariants as A
 use Rattle.protocol.specs.Constants.{SHARE}
 use Rattle.protocol.specs.Coding.{Answer, refused, value, refusal_number}
 use Rattle.protocol.specs.ConnectionRecord.{Reply, Served, serve}
@@ -38,11 +34,6 @@ told_to (value x) = value (somebody x)
 
 abbrev pub ticked_call : SdoClientInfo → List Connection → ℕ → Connection → Reply → List ℕ → List ℕ → List ℕ → Called Told
 ticked_call client row place next reply answer area image = record { returned = value (somebody (record { client = client; size = length (frame reply) })); answer = splice 0 (frame reply) answer; table = release is_gone (set row place next); area = area; image = image }
-
--- a deadline as an answer
-abbrev pub next_action : Deadline → NextAction
-next_action D.NoDeadline = A.Nothing
-next_action (D.At n) = A.At n
 
 -- a tick that looks at the record at a given place: `tick_of` where that is the first due one's
 abbrev pub on_tick_at : ℕ → ℕ → List ℕ → List ℕ → List Connection → List ℕ → Verdict → Called Told

@@ -10,12 +10,12 @@ ghost use Rattle.protocol.specs.ConnectionTable.{sound_table, update, share_of, 
 ghost use Rattle.protocol.specs.Calls.{told_checked, verdict, accept, addressed, answer_written, answer_left};
 ghost use Rattle.protocol.specs.Request.{told_outcome, told_requested, request_tests, accepted, request_of};
 ghost use Rattle.protocol.specs.Tick.{told_ticked, told_ticked_row, tick_tests, tick_at, tick_of};
-ghost use Rattle.server.specs.Left.{holds_share, served_on, settled_row, answered_call, told_to, ticked_call, next_action, tick_at_of};
+ghost use Rattle.table.specs.Row.{place_in};
+ghost use Rattle.server.specs.Left.{holds_share, served_on, settled_row, answered_call, told_to, ticked_call, tick_at_of};
 ghost use Rattle.protocol.specs.DeadlineQuery.{told_next_action, query_of};
 
 use protocol::{
-    Checked, Connection, Deadline, Handled, NextAction, Outcome, RecordTicked, Refusal, Requested,
-    SdoClientInfo, SdoResponseData, Ticked, TickedRow, Written,
+    Answered, BufferTooShort, Called, Connection, Left, Refusal, SdoClientInfo, SdoResponseData,
 };
 
 // All tests of a request, in order.
@@ -27,15 +27,11 @@ fn check_request(
     client: SdoClientInfo,
     clock: u64,
     request: &[u8],
-) -> Checked
+) -> Result<(), Refusal>
     ensures { told_checked result ≡ verdict (request_tests client clock request.now image.now answer.now t area.now) }
 {
-    let sound = table::is_sound(t);
-    let lent = refusals::check_lent(sound, area, image, answer, clock);
-    match lent {
-        Checked::Refused(x) => Checked::Refused(x),
-        Checked::Accepted => refusals::check_frame(request.len(), table::is_full(t, client)),
-    }
+    refusals::check_lent(table::is_sound(t), area, image, answer, clock)?;
+    refusals::check_frame(request.len(), table::is_full(t, client))
 }
 
 // A request on a record, whose own part of the area is lent on.
@@ -45,7 +41,7 @@ fn serve_share(
     image: &mut [u8],
     clock: u64,
     request: &[u8],
-) -> Handled
+) -> Left<Result<SdoResponseData, Refusal>>
     requires { SHARE * c.area + SHARE ≤ length area.old }
     ensures served { (told_handled result (share_of area.new c.area) image.new ≡ serve c (share_of area.old c.area) image.old clock request.now) }
     ensures area_left { area.new ≡ with_share area.old c.area (share_of area.new c.area) }
@@ -62,12 +58,15 @@ pub fn serve_record(
     image: &mut [u8],
     clock: u64,
     request: &[u8],
-) -> Handled
+) -> Left<Result<SdoResponseData, Refusal>>
     ensures served { told_handled result (share_of area.new c.area) image.new ≡ served_on c area.old image.old clock request.now }
     ensures area_left { area.new ≡ pick (holds_share c area.old) (with_share area.old c.area (share_of area.new c.area)) area.old }
 {
     if area.len() < 8192 * (c.area as usize) + 8192 {
-        return Handled::Refused(c, Refusal::Lent);
+        return Left {
+            connection: c,
+            said: Err(Refusal::Lent),
+        };
     }
     serve_share(c, area, image, clock, request)
 }
@@ -79,7 +78,7 @@ pub fn put_answer<'a>(
     number: u8,
     image: &'a [u8],
     answer: &mut [u8],
-) -> Written
+) -> Result<usize, BufferTooShort>
     ensures told { told_written result ≡ answer_written (told_reply r (share_of area.now number) image.now) answer.old }
     ensures left { answer.new ≡ answer_left (told_reply r (share_of area.now number) image.now) answer.old }
 {
@@ -88,13 +87,14 @@ pub fn put_answer<'a>(
 }
 
 // What is returned for an answer that was written.
-pub fn addressed(client: SdoClientInfo, w: Written) -> Outcome
-    ensures { told_outcome result ≡ addressed client (told_written w) }
+pub fn addressed(
+    client: SdoClientInfo,
+    written: Result<usize, BufferTooShort>,
+) -> Result<Answered, Refusal>
+    ensures { told_outcome result ≡ addressed client (told_written written) }
 {
-    match w {
-        Written::Bytes(n) => Outcome::Answered(client, n),
-        Written::BufferTooShort => Outcome::Refused(Refusal::Lent),
-    }
+    let length = written?;
+    Ok(Answered { client, length })
 }
 
 // The row with the record after an answered request, and without it where that is Closed.
@@ -102,10 +102,8 @@ fn settled(row: [Connection; 8], client: SdoClientInfo, next: Connection) -> [Co
     requires { sound_table (update client next row) ≡ true }
     ensures { result ≡ settled_row client row next }
 {
-    let place = table::place_of(row, client);
-    let t = table::replaced(row, place, next);
-    let s = next.state;
-    if connection::is_closed(s) {
+    let t = table::updated(row, client, next);
+    if connection::is_closed(next.state) {
         return table::dropped(t, client);
     }
     t
@@ -121,14 +119,24 @@ fn answered<'a>(
     area: &'a [u8],
     image: &'a [u8],
     answer: &mut [u8],
-) -> Requested
+) -> Called<Answered>
     requires { (sound_table (update client next row) ≡ true) × (ANSWER_MIN ≤ length answer.old) }
     ensures { told_requested result answer.new area.now image.now ≡ answered_call client row next (told_reply r (share_of area.now number) image.now) answer.old area.now image.now }
 {
     let w = put_answer(r, area, number, image, answer);
-    Requested {
+    Called {
         outcome: addressed(client, w),
         table: settled(row, client, next),
+    }
+}
+
+// A refused call, and the row that it leaves.
+fn refused<T: Copy>(x: Refusal, table: [Connection; 8]) -> Called<T>
+    ensures { result ≡ record { outcome = Err x; table = table } }
+{
+    Called {
+        outcome: Err(x),
+        table,
     }
 }
 
@@ -141,20 +149,17 @@ fn accepted(
     client: SdoClientInfo,
     clock: u64,
     request: &[u8],
-) -> Requested
+) -> Called<Answered>
     requires { verdict (request_tests client clock request.now image.old answer.old t area.old) ≡ accept }
     ensures { told_requested result answer.new area.new image.new ≡ accepted client clock request.now image.old answer.old t area.old }
 {
     let row = table::seated(t, client);
-    let place = table::place_of(row, client);
-    let c = table::record_at(row, place);
-    let handled = serve_share(c, area, image, clock, request);
-    match handled {
-        Handled::Refused(next, x) => Requested {
-            outcome: Outcome::Refused(x),
-            table: table::replaced(row, place, next),
-        },
-        Handled::Answered(next, r) => answered(row, client, c.area, next, r, area, image, answer),
+    let c = table::record_of(row, client);
+    let served = serve_share(c, area, image, clock, request);
+    let next = served.connection;
+    match served.said {
+        Ok(r) => answered(row, client, c.area, next, r, area, image, answer),
+        Err(x) => refused(x, table::updated(row, client, next)),
     }
 }
 
@@ -167,27 +172,23 @@ pub fn handle_request(
     client: SdoClientInfo,
     clock: u64,
     request: &[u8],
-) -> Requested
+) -> Called<Answered>
     ensures { told_requested result answer.new area.new image.new ≡ request_of client clock request.now image.old answer.old t area.old }
 {
-    let checked = check_request(t, area, image, answer, client, clock, request);
-    match checked {
-        Checked::Refused(x) => Requested {
-            outcome: Outcome::Refused(x),
-            table: t,
-        },
-        Checked::Accepted => accepted(t, area, image, answer, client, clock, request),
+    match check_request(t, area, image, answer, client, clock, request) {
+        Ok(()) => accepted(t, area, image, answer, client, clock, request),
+        Err(x) => refused(x, t),
     }
 }
 
 // What is returned for a tick's answer.
-fn ticked_to(client: SdoClientInfo, w: Written) -> Ticked
-    ensures { told_ticked result ≡ told_to (addressed client (told_written w)) }
+fn ticked_to(
+    client: SdoClientInfo,
+    written: Result<usize, BufferTooShort>,
+) -> Result<Option<Answered>, Refusal>
+    ensures { told_ticked result ≡ told_to (addressed client (told_written written)) }
 {
-    match w {
-        Written::Bytes(n) => Ticked::Answered(client, n),
-        Written::BufferTooShort => Ticked::Refused(Refusal::Lent),
-    }
+    addressed(client, written).map(Some)
 }
 
 // A tick that answers: the answer's bytes, and the row without its Closed records.
@@ -195,20 +196,18 @@ fn tick_answered<'a>(
     t: [Connection; 8],
     place: usize,
     c: Connection,
-    next: Connection,
-    r: SdoResponseData,
+    next: Left<SdoResponseData>,
     area: &'a [u8],
     image: &'a [u8],
     answer: &mut [u8],
-) -> TickedRow
-    requires { (sound_table (set t place next) ≡ true) × (ANSWER_MIN ≤ length answer.old) }
-    ensures { told_ticked_row result answer.new area.now image.now ≡ ticked_call c.client t place next (told_reply r (share_of area.now c.area) image.now) answer.old area.now image.now }
+) -> Called<Option<Answered>>
+    requires { (sound_table (set t place next.connection) ≡ true) × (ANSWER_MIN ≤ length answer.old) }
+    ensures { told_ticked_row result answer.new area.now image.now ≡ ticked_call c.client t place next.connection (told_reply next.said (share_of area.now c.area) image.now) answer.old area.now image.now }
 {
-    let client = c.client;
-    let w = put_answer(r, area, c.area, image, answer);
-    let row = table::replaced(t, place, next);
-    TickedRow {
-        outcome: ticked_to(client, w),
+    let written = put_answer(next.said, area, c.area, image, answer);
+    let row = table::replaced(t, place, next.connection);
+    Called {
+        outcome: ticked_to(c.client, written),
         table: table::drop_closed(row),
     }
 }
@@ -216,47 +215,41 @@ fn tick_answered<'a>(
 // A tick that passed the tests: the client of the record at a place is answered, then all Closed records are dropped.
 fn ticked<'a>(
     t: [Connection; 8],
-    place: usize,
+    place: Option<usize>,
     area: &'a [u8],
     image: &'a [u8],
     answer: &mut [u8],
     clock: u64,
-) -> TickedRow
+) -> Called<Option<Answered>>
     requires { verdict (tick_tests clock image.now answer.old t area.now) ≡ accept }
-    ensures { told_ticked_row result answer.new area.now image.now ≡ tick_at clock image.now answer.old t area.now place }
+    ensures { told_ticked_row result answer.new area.now image.now ≡ tick_at clock image.now answer.old t area.now (place_in place) }
 {
-    let c = table::record_at(t, place);
-    let told = sequence_handler::tick(c, image, clock);
-    match told {
-        RecordTicked::Nothing => TickedRow {
-            outcome: Ticked::Nothing,
-            table: table::drop_closed(t),
-        },
-        RecordTicked::Answered(next, r) => {
-            tick_answered(t, place, c, next, r, area, image, answer)
+    if let Some(i) = place {
+        let c = table::record_at(t, i);
+        if let Some(next) = sequence_handler::tick(c, image, clock) {
+            return tick_answered(t, i, c, next, area, image, answer);
         }
+    }
+    Called {
+        outcome: Ok(None),
+        table: table::drop_closed(t),
     }
 }
 
-// A tick of the clock that looks at the record at a place.
+// A tick of the clock that looks at the record at a place, or at none.
 pub fn tick_at<'a>(
     t: [Connection; 8],
-    place: usize,
+    place: Option<usize>,
     area: &'a [u8],
     image: &'a [u8],
     answer: &mut [u8],
     clock: u64,
-) -> TickedRow
-    ensures { told_ticked_row result answer.new area.now image.now ≡ tick_at_of place clock image.now answer.old t area.now }
+) -> Called<Option<Answered>>
+    ensures { told_ticked_row result answer.new area.now image.now ≡ tick_at_of (place_in place) clock image.now answer.old t area.now }
 {
-    let sound = table::is_sound(t);
-    let checked = refusals::check_lent(sound, area, image, answer, clock);
-    match checked {
-        Checked::Refused(x) => TickedRow {
-            outcome: Ticked::Refused(x),
-            table: t,
-        },
-        Checked::Accepted => ticked(t, place, area, image, answer, clock),
+    match refusals::check_lent(table::is_sound(t), area, image, answer, clock) {
+        Ok(()) => ticked(t, place, area, image, answer, clock),
+        Err(x) => refused(x, t),
     }
 }
 
@@ -267,28 +260,18 @@ pub fn tick<'a>(
     image: &'a [u8],
     answer: &mut [u8],
     clock: u64,
-) -> TickedRow
+) -> Called<Option<Answered>>
     ensures { told_ticked_row result answer.new area.now image.now ≡ tick_of clock image.now answer.old t area.now }
 {
     tick_at(t, table::first_due(t, clock), area, image, answer, clock)
 }
 
-// A deadline as an answer.
-pub fn next_action(d: Deadline) -> NextAction
-    ensures { result ≡ next_action d }
-{
-    match d {
-        Deadline::NoDeadline => NextAction::Nothing,
-        Deadline::At(n) => NextAction::At(n),
-    }
-}
-
 // The earliest deadline.
-pub fn next_action_time(t: [Connection; 8]) -> NextAction
+pub fn next_action_time(t: [Connection; 8]) -> Result<Option<u64>, Refusal>
     ensures { told_next_action result ≡ query_of t }
 {
     if table::is_sound(t) {
-        return next_action(table::next_deadline(t));
+        return Ok(table::next_deadline(t));
     }
-    NextAction::Refused(Refusal::Table)
+    Err(Refusal::Table)
 }

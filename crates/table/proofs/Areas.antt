@@ -8,6 +8,7 @@ use lib.ListN.{length, get_or, set, replicate, length-set}
 use lib.Seq.{get_or-set_same}
 use lib.Dec.{ltb, eqb}
 use borrow.Author.Tests.{eq-eqb, ne_eqb, eqb-true, ltb-true, not-true}
+use Rattle.std.proofs.Math.Bool.{and-false}
 use Rattle.picks.specs.Pick.{every, count, checks}
 use Rattle.picks.proofs.Keep.{by_test, not_both, left, of_every, count_yes, count_no, every_always}
 use Rattle.protocol.specs.declared.SdoClientInfo.TheVariants.{Asnd}
@@ -30,17 +31,13 @@ unfolding every
 every_same p f g [] e h = refl
 every_same p f g (x ∷ xs) e h = let q = of_every p x xs e in rw (h x q.0, every_same p f g xs q.1 h)
 
-and_false : (a : Bool) → (a && false) ≡ false
-and_false true = refl
-and_false false = refl
-
 every_fails : {A : Type 0} (p f : A → Bool) (xs : List A) → 0 < count p xs → ((x : A) → p x ≡ true → f x ≡ false) → every f xs ≡ false
 unfolding every count
 every_fails p f [] c h = absurd (omega arith)
 every_fails p f (x ∷ xs) c h =
     by_test (p x)
     (λ t. rw (h x t))
-    (λ t. rw (every_fails p f xs (omega (arith, count_no p x xs t)) h) (and_false (f x)))
+    (λ t. rw (every_fails p f xs (omega (arith, count_no p x xs t)) h) (and-false (f x)))
 
 get_d_set_other : {A : Type 0} (xs : List A) (i j : ℕ) (a d : A) → (i ≡ j → ⊥) → get_or (set xs i a) j d ≡ get_or xs j d
 get_d_set_other [] i j a d n = refl
@@ -76,7 +73,7 @@ module _ (seen : List Bool) (x : Connection) (xs : List Connection) (ok : unseen
   again : (r : Connection) → has_area x.area r ≡ true → single (mark seen x) xs r ≡ false
   again r t =
       let h : x.area < length seen = rw eight (ltb-true x.area 8 (left (ltb x.area 8) (not (get_or seen x.area false)) ok)) in
-      rw (eqb-true r.area x.area t, get_or-set_same seen x.area true false h, and_false (ltb x.area 8))
+      rw (eqb-true r.area x.area t, get_or-set_same seen x.area true false h, and-false (ltb x.area 8))
 
   step : every (single (mark seen x) xs) xs ≡ every (single seen (x ∷ xs)) (x ∷ xs)
   unfolding every

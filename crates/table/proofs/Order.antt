@@ -1,5 +1,5 @@
--- `ordered`, two records by two, and a loop that asks for it.
-use Prim.Native.Nat.{ℕ, suc, ◌+◌, ◌<◌}
+-- `ordered`, two records by two, and a test of every two neighbours.
+use Prim.Native.Nat.{ℕ, zero, suc, ◌+◌, ◌<◌}
 use native.Mathlib.Omega.{arith}
 use native.Mathlib.Numerals.{add-one}
 use mathlib.Core.Path.{◌≡◌, refl, sym, ap, ◌∙◌}
@@ -9,6 +9,8 @@ use lib.ListN.{length, get_or, drop, drop_of_length-le}
 use lib.Seq.{drop-cons}
 use lib.Dec.{eqb}
 use borrow.Author.Tests.{not-true}
+use Rattle.std.proofs.Math.Bool.{and-false}
+use Rattle.std.specs.List.{IsAllAdjacentAnswer}
 use Rattle.picks.specs.Pick.{pick, every}
 use Rattle.picks.proofs.Keep.{by_test, not_both, left, every_follows, of_both}
 use Rattle.picks.proofs.Picks.{pick_t, pick_f}
@@ -55,16 +57,29 @@ module _ (xs : List Connection) (i : ℕ) (d : Connection) (inv : ordered xs ≡
   here : i + 1 < length xs → ordered xs ≡ (follows (get_or xs i d) (get_or xs (i + 1) d) && ordered (drop (i + 1) xs))
   here h = rw (add-one i) (inv ∙ rw (drop-cons xs i d (omega arith), drop-cons xs (suc i) d (omega arith)) (ordered_two _ _ _))
 
-  pub order_more : i + 1 < length xs → follows (get_or xs i d) (get_or xs (i + 1) d) ≡ true → ordered xs ≡ ordered (drop (i + 1) xs)
+  order_more : i + 1 < length xs → follows (get_or xs i d) (get_or xs (i + 1) d) ≡ true → ordered xs ≡ ordered (drop (i + 1) xs)
   order_more h t = here h ∙ ap (λ (b : Bool). b && ordered (drop (i + 1) xs)) t
 
-  pub order_not : i + 1 < length xs → follows (get_or xs i d) (get_or xs (i + 1) d) ≡ false → false ≡ ordered xs
-  order_not h t = sym (here h ∙ ap (λ (b : Bool). b && ordered (drop (i + 1) xs)) t)
-
-  pub order_end : length xs ≡ suc i → ((get_or xs i d).used || is_fresh (get_or xs i d)) ≡ ordered xs
+  order_end : length xs ≡ suc i → ((get_or xs i d).used || is_fresh (get_or xs i d)) ≡ ordered xs
   order_end h =
       let e : drop i xs ≡ get_or xs i d ∷ [] = rw (drop-cons xs i d (omega arith), drop_of_length-le xs {i = suc i} (omega arith)) in
       sym (inv ∙ (ap ordered e ∙ ordered_one (get_or xs i d)))
+
+-- every two neighbours and the last record: a row of n + 1 records
+up_to : (xs : List Connection) (d : Connection) → ((k : ℕ) → k + 1 < length xs → true ≡ follows (get_or xs k d) (get_or xs (k + 1) d)) → (i : ℕ) → i < length xs → ordered xs ≡ ordered (drop i xs)
+up_to xs d h zero l = refl
+up_to xs d h (suc i) l =
+    rw (← add-one i) (order_more xs i d (up_to xs d h i (omega arith)) (omega arith) (sym (h i (omega arith))))
+
+fails_at : (xs : List Connection) (d : Connection) (k : ℕ) → suc k < length xs → false ≡ follows (get_or xs k d) (get_or xs (suc k) d) → false ≡ ordered xs
+fails_at [] d k l e = absurd (omega arith)
+fails_at (x ∷ []) d k l e = absurd (omega arith)
+fails_at (x ∷ y ∷ ys) d zero l e = rw (ordered_two x y ys, ← e)
+fails_at (x ∷ y ∷ ys) d (suc k) l e = rw (ordered_two x y ys, ← fails_at (y ∷ ys) d k (omega arith) e) (sym (and-false (follows x y)))
+
+pub ordered_sorted : (xs : List Connection) (n : ℕ) (d : Connection) (r : Bool) → length xs ≡ suc n → IsAllAdjacentAnswer (λ x y b. b ≡ follows x y) xs r → (r && ((get_or xs n d).used || is_fresh (get_or xs n d))) ≡ ordered xs
+ordered_sorted xs n d true l h = order_end xs n d (up_to xs d (λ k i. h k d i) n (omega arith)) l
+ordered_sorted xs n d false l h = fails_at xs d h.0 (rw (← add-one h.0) h.1) (rw (← add-one h.0) (h.2 d))
 
 -- an ordered row has its used records first
 pub ordered_used_first : (t : List Connection) → ordered t ≡ true → used_first t ≡ true

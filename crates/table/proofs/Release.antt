@@ -1,16 +1,16 @@
 -- Where a row's used records come first, records dropped one by one by their places are `release`.
-use Prim.Native.Nat.{ℕ, zero, suc, ◌-◌, ◌<◌, ◌≤◌}
+use Prim.Native.Nat.{ℕ, zero, suc, ◌<◌, ◌≤◌}
 use native.Mathlib.Omega.{arith}
 use mathlib.Core.Path.{◌≡◌, refl, sym, ap, ◌∙◌}
 use mathlib.Core.Bool.{Bool, true, false, ◌&&◌, not}
 use mathlib.Core.List.{List, [], ◌∷◌, ◌++◌, map, append_assoc, append-nil}
-use lib.ListN.{length, get_or, set, take, drop, take-append-drop}
+use lib.ListN.{length, get_or, take, drop, take-append-drop}
 use lib.Seq.{drop-cons}
 use lib.Dec.{ltb}
 use borrow.Author.Tests.{lt-ltb, le-ltb, ltb-true, ltb-false, not-true}
 use Rattle.picks.specs.Pick.{pick, first, every, count, keep}
 use Rattle.picks.proofs.Picks.{pick_t, pick_f}
-use Rattle.picks.proofs.Keep.{by_test, not_both, both, of_both, of_every, every_cons, every_append, every_keep, keep_append, keep_yes, keep_no, keep_all, keep_none, count_append, count_yes, count_no, first_yes, first_no, first_at, first_out, count_none, every_set, every_at}
+use Rattle.picks.proofs.Keep.{by_test, not_both, both, of_both, of_every, every_append, every_keep, keep_append, keep_yes, keep_no, keep_all, keep_none, count_append, count_yes, count_no, first_yes, first_no, first_at, first_out, count_none}
 use Rattle.protocol.specs.declared.SdoClientInfo.{SdoClientInfo}
 use Rattle.protocol.specs.declared.Connection.{Connection}
 use Rattle.protocol.specs.ConnectionTable.{fresh, is_used, is_unused, used_of, unused_of, is_closed, holds, place_of, release}
@@ -162,13 +162,30 @@ module _ (gone : Connection → Bool) (within : (r : Connection) → gone r ≡ 
       (λ b. let k = ltb-true (first gone t) (length t) b in drops_release n (dropped_at (first gone t) t) (drop_used_first t k e) (omega (arith, drop_counts t k)) ∙ drop_releases t k)
       (λ b. let k = ltb-false (first gone t) (length t) b in rw (dropped_out t (first gone t) k) (drops_release n t e (omega (arith, count_none gone t (first_out gone t k)))))
 
+  -- a turn more drops nothing where there are as many turns as records to drop
+  drops_enough : (n : ℕ) (t : List Connection) → count gone t ≤ n → drops_first n gone t ≡ drops_first (suc n) gone t
+  unfolding drops_first
+  drops_enough zero t h =
+      by_test (ltb (first gone t) (length t))
+      (λ b. absurd (omega (arith, drop_counts t (ltb-true (first gone t) (length t) b))))
+      (λ b. sym (dropped_out t (first gone t) (ltb-false (first gone t) (length t) b)))
+  drops_enough (suc n) t h =
+      by_test (ltb (first gone t) (length t))
+      (λ b. drops_enough n (dropped_at (first gone t) t) (omega (arith, drop_counts t (ltb-true (first gone t) (length t) b))))
+      (λ b. let k = ltb-false (first gone t) (length t) b in drops_enough n (dropped_at (first gone t) t) (rw (dropped_out t (first gone t) k) (omega (arith, count_none gone t (first_out gone t k)))))
+
+  -- so that a turn leaves what is dropped in all
+  pub drops_more : (n : ℕ) (t : List Connection) → count gone t ≤ n → drops_first n gone t ≡ drops_first n gone (dropped_at (first gone t) t)
+  unfolding drops_first
+  drops_more n t h = drops_enough n t h
+
   -- no turn changes a row that has none to drop
   pub drops_none : (n : ℕ) (t : List Connection) → length t ≤ first gone t → drops_first n gone t ≡ t
   unfolding drops_first
   drops_none zero t h = refl
   drops_none (suc n) t h = rw (dropped_out t (first gone t) h) (drops_none n t h)
 
-count_most : {A : Type 0} (f : A → Bool) (t : List A) → count f t ≤ length t
+pub count_most : {A : Type 0} (f : A → Bool) (t : List A) → count f t ≤ length t
 unfolding count
 count_most f [] = omega arith
 count_most f (x ∷ xs) =
@@ -185,27 +202,3 @@ gone_used r k = (of_both r.used (is_closed r.state) k).0
 
 pub release_closed : (n : ℕ) (t : List Connection) → used_first t ≡ true → length t ≤ n → release (λ r. r.used && is_closed r.state) t ≡ drops_first n is_gone t
 release_closed n t e h = sym (drops_release is_gone gone_used n t e (omega (arith, count_most is_gone t)))
-
--- a record put in place of one that is used where it is keeps used records first
-pub set_used_first : (t : List Connection) (i : ℕ) (r d : Connection) → used_first t ≡ true → i < length t → r.used ≡ (get_or t i d).used → used_first (set t i r) ≡ true
-set_used_first [] i r d e h u = absurd (omega arith)
-set_used_first (x ∷ xs) zero r d e h u =
-    by_test x.used
-    (λ v. used_made r xs (u ∙ v) (used_then x xs v e))
-    (λ v. unused_made (r ∷ xs) (every_cons is_unused r xs (ap not (u ∙ v)) (of_every is_unused x xs (unused_then x xs v e)).1))
-set_used_first (x ∷ xs) (suc i) r d e h u =
-    by_test x.used
-    (λ v. used_made x (set xs i r) v (set_used_first xs i r d (used_then x xs v e) (omega arith) u))
-    (λ v. let n = unused_then x xs v e in
-    unused_made (x ∷ set xs i r) (every_set is_unused (x ∷ xs) (suc i) r n (ap not u ∙ every_at is_unused (x ∷ xs) (suc i) d n h)))
-
--- a turn of the loop, and its end
-pub drops_turn : (n : ℕ) (f : Connection → Bool) (t : List Connection) → 0 < n → drops_first n f t ≡ drops_first (n - 1) f (dropped_at (first f t) t)
-unfolding drops_first
-drops_turn zero f t h = absurd (omega arith)
-drops_turn (suc n) f t h = let e : suc n - 1 ≡ n = omega arith in rw e
-
-pub drops_end : (n : ℕ) (f : Connection → Bool) (t : List Connection) → n ≤ 0 → drops_first n f t ≡ t
-unfolding drops_first
-drops_end zero f t h = refl
-drops_end (suc n) f t h = absurd (omega arith)

@@ -1,10 +1,15 @@
 -- The moves of a row by places, as the code makes them, for a row of any shape; proofs/ says where they are `join` and `release`.
-use Rattle.std.specs.Prelude.{ℕ, zero, suc, ◌-◌, Bool, true, List, [], ◌∷◌, ◌++◌, length, get_or, take, drop, ltb}
+use Rattle.std.specs.Prelude.{ℕ, zero, suc, ◌-◌, Bool, true, List, [], ◌∷◌, ◌++◌, length, get_or, take, drop, ltb, Option, Some, None}
 use Rattle.picks.specs.Pick.{pick, first, every}
 use Rattle.protocol.specs.declared.SdoClientInfo.{SdoClientInfo}
 use Rattle.protocol.specs.declared.Connection.{Connection}
 use Rattle.protocol.specs.ConnectionTable.{fresh, is_unused, joining}
 use Rattle.connection.specs.Among.{is_behind}
+
+-- the place that a search tells, the row's length where it tells none
+abbrev pub place_in : Option ℕ → ℕ
+place_in None = 8
+place_in (Some i) = i
 
 -- used records come first
 unfoldable pub used_first : List Connection → Bool

@@ -1,98 +1,61 @@
 // The row of eight connection records, by value (server.rs has a BTreeMap of handlers, by client): its soundness, a client's place, who is due, and how a client joins and leaves.
 #![tactic(auto)]
 
-ghost use Rattle.std.specs.Prelude.{◌≡◌, true, false, not, ◌&&◌, [], ◌∷◌, ◌++◌, length, get_or, set, take, drop, suc, ◌≤◌, ◌<◌, eqb};
+ghost use Rattle.std.specs.Prelude.{◌≡◌, true, false, not, ◌&&◌, [], ◌∷◌, ◌++◌, length, get_or, set, take, drop, suc, ◌≤◌, ◌<◌, eqb, IfSome};
 ghost use Rattle.picks.specs.Pick.{pick, first, every};
-ghost use Rattle.protocol.specs.ConnectionTable.{unused_of, fresh, holds, place_of, is_known, join, release, sound_record, chosen, earliest, ordered, areas_once, sound_table};
+ghost use Rattle.protocol.specs.ConnectionTable.{unused_of, fresh, holds, place_of, record_of, update, is_known, join, release, sound_record, chosen, earliest, ordered, areas_once, sound_table};
 ghost use Rattle.connection.specs.Among.{is_gone};
-ghost use Rattle.table.specs.Row.{unused_place, seat_place, put_in, joined_row, dropped_at, drops_first};
+ghost use Rattle.table.specs.Row.{place_in, unused_place, seat_place, put_in, joined_row, dropped_at, drops_first};
 
-use protocol::{Connection, Deadline, SdoClientInfo};
+use protocol::{Connection, SdoClientInfo};
 
-// The place of the client's record, or 8.
-pub fn place_of(t: [Connection; 8], client: SdoClientInfo) -> usize
-    ensures { result ≡ place_of client t }
+// The place of the client's record.
+pub fn place_of(t: [Connection; 8], client: SdoClientInfo) -> Option<usize>
+    ensures place { place_in result ≡ place_of client t }
+    ensures inside { IfSome result (λ i. i < 8) }
 {
-    let mut i = 0;
-    while i < 8 {
-        let c = t[i];
-        if connection::is_held(c, client) {
-            return i;
-        }
-        i += 1;
-    }
-    i
+    t.iter().position(|c| connection::is_held(*c, client))
 }
 
-// The place of the first record that is due, or 8.
-pub fn first_due(t: [Connection; 8], clock: u64) -> usize
-    ensures { result ≡ chosen t clock }
+// The place of the first record that is due.
+pub fn first_due(t: [Connection; 8], clock: u64) -> Option<usize>
+    ensures place { place_in result ≡ chosen t clock }
+    ensures inside { IfSome result (λ i. i < 8) }
 {
-    let mut i = 0;
-    while i < 8 {
-        let c = t[i];
-        if transfers::is_due(c, clock) {
-            return i;
-        }
-        i += 1;
-    }
-    i
+    t.iter().position(|c| transfers::is_due(*c, clock))
 }
 
 // The earliest deadline of the row.
-pub fn next_deadline(t: [Connection; 8]) -> Deadline
+pub fn next_deadline(t: [Connection; 8]) -> Option<u64>
     ensures { result ≡ earliest t }
 {
-    let mut d = Deadline::NoDeadline;
-    let mut i = 0;
-    while i < 8 {
-        let c = t[i];
-        d = transfers::earlier(d, transfers::deadline_of(c));
-        i += 1;
-    }
-    d
+    t.iter().fold(
+        None,
+        |d, c| transfers::earlier(d, transfers::deadline_of(*c)),
+    )
 }
 
-// The place of the first unused record, or 8.
-pub fn unused_place(t: [Connection; 8]) -> usize
-    ensures { result ≡ unused_place t }
+// The place of the first unused record.
+pub fn unused_place(t: [Connection; 8]) -> Option<usize>
+    ensures place { place_in result ≡ unused_place t }
+    ensures inside { IfSome result (λ i. i < 8) }
 {
-    let mut i = 0;
-    while i < 8 {
-        let c = t[i];
-        if connection::is_unused(c) {
-            return i;
-        }
-        i += 1;
-    }
-    i
+    t.iter().position(|c| !c.used)
 }
 
 // Whether the row has no record for the client, and none left to give it one.
 pub fn is_full(t: [Connection; 8], client: SdoClientInfo) -> bool
     ensures { result ≡ (not (is_known client t) && eqb (length (unused_of t)) 0) }
 {
-    let own = place_of(t, client);
-    let free = unused_place(t);
-    !(own < 8) & !(free < 8)
+    place_of(t, client).is_none() & unused_place(t).is_none()
 }
 
 // Used records come first, clients strictly ascending, and unused ones are fresh.
 fn is_ordered(t: [Connection; 8]) -> bool
     ensures { result ≡ ordered t }
 {
-    let mut i = 0;
-    while i < 7 {
-        let x = t[i];
-        let y = t[i + 1];
-        if connection::follows(x, y) {
-            i += 1;
-        } else {
-            return false;
-        }
-    }
     let last = t[7];
-    last.used | connection::is_fresh(last)
+    t.is_sorted_by(|x, y| connection::follows(*x, *y)) & (last.used | connection::is_fresh(last))
 }
 
 // Area numbers 0 to 7, each once.
@@ -100,19 +63,12 @@ fn areas_once(t: [Connection; 8]) -> bool
     ensures { result ≡ areas_once t }
 {
     let mut seen = [false; 8];
-    let mut i = 0;
-    while i < 8 {
-        let c = t[i];
+    for c in &t {
         let n = c.area as usize;
-        if n < 8 {
-            if seen[n] {
-                return false;
-            }
-            seen[n] = true;
-        } else {
+        if 8 <= n || seen[n] {
             return false;
         }
-        i += 1;
+        seen[n] = true;
     }
     true
 }
@@ -121,41 +77,23 @@ fn areas_once(t: [Connection; 8]) -> bool
 fn records_sound(t: [Connection; 8]) -> bool
     ensures { result ≡ every sound_record t }
 {
-    let mut i = 0;
-    while i < 8 {
-        let c = t[i];
-        if transfers::sound_record(c) {
-            i += 1;
-        } else {
-            return false;
-        }
-    }
-    true
+    t.iter().all(|c| transfers::sound_record(*c))
 }
 
 // Whether the row is in order, its area numbers each there once, and every record sound.
+#[tactic(auto, unfolding(protocol::specs::ConnectionTable::sound_table))]
 pub fn is_sound(t: [Connection; 8]) -> bool
     ensures { result ≡ sound_table t }
 {
-    let a = is_ordered(t);
-    let b = areas_once(t);
-    let c = records_sound(t);
-    a & b & c
+    is_ordered(t) & areas_once(t) & records_sound(t)
 }
 
-// Where a client's record belongs, or 8.
-fn seat_place(t: [Connection; 8], client: SdoClientInfo) -> usize
-    ensures { result ≡ seat_place client t }
+// Where a client's record belongs.
+fn seat_place(t: [Connection; 8], client: SdoClientInfo) -> Option<usize>
+    ensures place { place_in result ≡ seat_place client t }
+    ensures inside { IfSome result (λ i. i < 8) }
 {
-    let mut i = 0;
-    while i < 8 {
-        let c = t[i];
-        if connection::is_behind(c, client) {
-            return i;
-        }
-        i += 1;
-    }
-    i
+    t.iter().position(|c| connection::is_behind(*c, client))
 }
 
 // The row with a record put at a place and those from there up to place n moved up by one; the one at place n is lost.
@@ -165,12 +103,7 @@ fn put_in(t: [Connection; 8], at: usize, n: usize, c: Connection) -> [Connection
     ensures { result ≡ put_in at n c t }
 {
     let mut r = t;
-    let mut k = 0;
-    while k < n - at {
-        let x = t[at + k];
-        r[at + 1 + k] = x;
-        k += 1;
-    }
+    r[at..=n].rotate_right(1);
     r[at] = c;
     r
 }
@@ -181,12 +114,7 @@ fn put_last(t: [Connection; 8], at: usize, c: Connection) -> [Connection; 8]
     ensures { result ≡ take at t ++ drop (suc at) t ++ (c ∷ []) }
 {
     let mut r = t;
-    let mut k = 0;
-    while k < 7 - at {
-        let x = t[at + 1 + k];
-        r[at + k] = x;
-        k += 1;
-    }
+    r[at..].rotate_left(1);
     r[7] = c;
     r
 }
@@ -195,13 +123,11 @@ fn put_last(t: [Connection; 8], at: usize, c: Connection) -> [Connection; 8]
 fn joined(t: [Connection; 8], client: SdoClientInfo) -> [Connection; 8]
     ensures { result ≡ joined_row client t }
 {
-    let n = unused_place(t);
-    if n < 8 {
-        let at = seat_place(t, client);
-        let free = t[n];
-        return put_in(t, at, n, connection::joining(client, free.area));
-    }
-    t
+    let Some(n) = unused_place(t) else {
+        return t;
+    };
+    let at = seat_place(t, client).unwrap_or(n);
+    put_in(t, at, n, connection::joining(client, t[n].area))
 }
 
 // The row where the client has a record: its own, or one that it joins with.
@@ -209,7 +135,7 @@ pub fn seated(t: [Connection; 8], client: SdoClientInfo) -> [Connection; 8]
     ensures value { result ≡ pick (is_known client t) t (joined_row client t) }
     ensures when_sound { (sound_table t ≡ true → (not (is_known client t) && eqb (length (unused_of t)) 0) ≡ false → result ≡ pick (is_known client t) t (join client t)) }
 {
-    if place_of(t, client) < 8 {
+    if place_of(t, client).is_some() {
         return t;
     }
     joined(t, client)
@@ -219,20 +145,35 @@ pub fn seated(t: [Connection; 8], client: SdoClientInfo) -> [Connection; 8]
 pub fn record_at(t: [Connection; 8], i: usize) -> Connection
     ensures { result ≡ get_or t i (fresh 0) }
 {
-    if i < 8 {
-        return t[i];
+    t.get(i).copied().unwrap_or(connection::fresh(0))
+}
+
+// The client's record; a fresh one where it has none.
+pub fn record_of(t: [Connection; 8], client: SdoClientInfo) -> Connection
+    ensures { result ≡ record_of client t }
+{
+    match place_of(t, client) {
+        Some(i) => t[i],
+        None => connection::fresh(0),
     }
-    connection::fresh(0)
 }
 
 // The row with another record at a place; past the end it stays.
-pub fn replaced(t: [Connection; 8], i: usize, c: Connection) -> [Connection; 8]
+pub fn replaced(mut t: [Connection; 8], i: usize, c: Connection) -> [Connection; 8]
     ensures { result ≡ set t i c }
 {
     if i < 8 {
-        let mut r = t;
-        r[i] = c;
-        return r;
+        t[i] = c;
+    }
+    t
+}
+
+// The row with another record in place of the client's; it stays where the client has none.
+pub fn updated(mut t: [Connection; 8], client: SdoClientInfo, c: Connection) -> [Connection; 8]
+    ensures { result ≡ update client c t }
+{
+    if let Some(i) = place_of(t, client) {
+        t[i] = c;
     }
     t
 }
@@ -242,8 +183,7 @@ pub fn dropped_at(t: [Connection; 8], i: usize) -> [Connection; 8]
     ensures { result ≡ dropped_at i t }
 {
     if i < 8 {
-        let gone = t[i];
-        return put_last(t, i, connection::fresh(gone.area));
+        return put_last(t, i, connection::fresh(t[i].area));
     }
     t
 }
@@ -253,23 +193,18 @@ pub fn dropped(t: [Connection; 8], client: SdoClientInfo) -> [Connection; 8]
     ensures value { result ≡ dropped_at (place_of client t) t }
     ensures when_sound { (sound_table t ≡ true → result ≡ release (holds client) t) }
 {
-    let i = place_of(t, client);
-    dropped_at(t, i)
+    match place_of(t, client) {
+        Some(i) => dropped_at(t, i),
+        None => t,
+    }
 }
 
-// The place of the first closed one of the used records, or 8.
-fn gone_place(t: [Connection; 8]) -> usize
-    ensures { result ≡ first is_gone t }
+// The place of the first closed one of the used records.
+fn gone_place(t: [Connection; 8]) -> Option<usize>
+    ensures place { place_in result ≡ first is_gone t }
+    ensures inside { IfSome result (λ i. i < 8) }
 {
-    let mut i = 0;
-    while i < 8 {
-        let c = t[i];
-        if connection::is_gone(c) {
-            return i;
-        }
-        i += 1;
-    }
-    i
+    t.iter().position(|c| connection::is_gone(*c))
 }
 
 // The row without its closed records, whose area numbers go to the last unused ones in client order.
@@ -278,16 +213,9 @@ pub fn drop_closed(t: [Connection; 8]) -> [Connection; 8]
     ensures when_sound { (sound_table t ≡ true → result ≡ release is_gone t) }
 {
     let mut r = t;
-    let mut left: usize = 8;
-    while 0 < left {
-        let i = gone_place(r);
-        if i < 8 {
-            let next = dropped_at(r, i);
-            r = next;
-            left -= 1;
-        } else {
-            return r;
-        }
+    while let Some(i) = gone_place(r) {
+        let next = dropped_at(r, i);
+        r = next;
     }
     r
 }

@@ -1,11 +1,11 @@
 // The transfer of a connection record, by value: whether it is sound, and when it is due.
 #![tactic(auto)]
 
-ghost use Rattle.std.specs.Prelude.{◌≡◌, not, ◌&&◌, max, eqb, ltb};
+ghost use Rattle.std.specs.Prelude.{◌≡◌, not, ◌&&◌, max, eqb};
 ghost use Rattle.picks.specs.Pick.{pick};
 ghost use Rattle.protocol.specs.ConnectionTable.{has_deadline, sound_upload, sound_download, sound_state, sound_record, transfer_deadline, is_past, is_due, earlier, deadline_of};
 
-use protocol::{Connection, Deadline, SdoServerState, SdoTransferState};
+use protocol::{Connection, SdoServerState, SdoTransferState};
 
 // The most payload bytes of an answer, the bytes of a share, and what the first frame of a write may carry.
 const MAX_EXPEDITED_PAYLOAD: u32 = 1452;
@@ -14,54 +14,39 @@ const SHARE: u32 = 8192;
 
 const FIRST_MAX: u32 = 1480;
 
-// Whether there is a deadline.
-fn has_deadline(d: Deadline) -> bool
-    ensures { result ≡ has_deadline d }
-{
-    match d {
-        Deadline::NoDeadline => false,
-        Deadline::At(_) => true,
-    }
-}
-
 // Whether deadline and stored piece are both there, or both absent and no retries left.
+#[tactic(auto, unfolding(picks::specs::Pick::pick))]
 fn is_awaited(t: SdoTransferState) -> bool
     ensures { result ≡ pick t.stored (has_deadline t.deadline) (not (has_deadline t.deadline) && eqb t.retries 0) }
 {
-    let d = t.deadline;
     if t.stored {
-        return has_deadline(d);
+        return t.deadline.is_some();
     }
-    !has_deadline(d) & (t.retries == 0)
+    t.deadline.is_none() & (t.retries == 0)
 }
 
 // An upload has total 1,453 to 8,192 and offset a positive multiple of 1,452 below total.
+#[tactic(auto, unfolding(protocol::specs::ConnectionTable::sound_upload, protocol::specs::Constants::PIECE, protocol::specs::Constants::SHARE))]
 pub fn sound_upload(t: SdoTransferState) -> bool
     ensures { result ≡ sound_upload t }
 {
-    let total = t.total;
-    let offset = t.offset;
-    (MAX_EXPEDITED_PAYLOAD < total)
-        & (total <= SHARE)
-        & (0 < offset)
-        & (offset < total)
-        & (offset % MAX_EXPEDITED_PAYLOAD == 0)
+    (MAX_EXPEDITED_PAYLOAD < t.total)
+        & (t.total <= SHARE)
+        & (0 < t.offset)
+        & (t.offset < t.total)
+        & (t.offset % MAX_EXPEDITED_PAYLOAD == 0)
         & is_awaited(t)
 }
 
-// The larger of two numbers.
-fn larger(a: u32, b: u32) -> u32
-    ensures { result ≡ max a b }
-{
-    if a < b { b } else { a }
-}
-
 // A download has total 1 to 8,192, offset at most the larger of total and 1,480, and a deadline.
+#[tactic(auto, unfolding(protocol::specs::ConnectionTable::sound_download, protocol::specs::Constants::SHARE, protocol::specs::Constants::FIRST_MAX))]
 pub fn sound_download(t: SdoTransferState) -> bool
     ensures { result ≡ sound_download t }
 {
-    let d = t.deadline;
-    (1 <= t.total) & (t.total <= SHARE) & (t.offset <= larger(t.total, FIRST_MAX)) & has_deadline(d)
+    (1 <= t.total)
+        & (t.total <= SHARE)
+        & (t.offset <= t.total.max(FIRST_MAX))
+        & t.deadline.is_some()
 }
 
 // Whether the transfer of a state is sound.
@@ -69,83 +54,63 @@ fn sound_state(s: SdoServerState) -> bool
     ensures { result ≡ sound_state s }
 {
     match s {
-        SdoServerState::Closed => true,
-        SdoServerState::Opening => true,
-        SdoServerState::Established => true,
+        SdoServerState::Closed | SdoServerState::Opening | SdoServerState::Established => true,
         SdoServerState::SegmentedDownload(t) => sound_download(t),
         SdoServerState::SegmentedUpload(t) => sound_upload(t),
     }
 }
 
 // Sequence numbers at most 63, and a sound transfer.
+#[tactic(auto, unfolding(protocol::specs::ConnectionTable::sound_record))]
 pub fn sound_record(c: Connection) -> bool
     ensures { result ≡ sound_record c }
 {
-    let s = c.state;
-    (c.send <= 63) & (c.receive <= 63) & sound_state(s)
+    (c.send <= 63) & (c.receive <= 63) & sound_state(c.state)
 }
 
 // When the transfer of a state is due.
-fn transfer_deadline(s: SdoServerState) -> Deadline
+fn transfer_deadline(s: SdoServerState) -> Option<u64>
     ensures { result ≡ transfer_deadline s }
 {
     match s {
-        SdoServerState::Closed => Deadline::NoDeadline,
-        SdoServerState::Opening => Deadline::NoDeadline,
-        SdoServerState::Established => Deadline::NoDeadline,
-        SdoServerState::SegmentedDownload(t) => t.deadline,
-        SdoServerState::SegmentedUpload(t) => t.deadline,
+        SdoServerState::Closed | SdoServerState::Opening | SdoServerState::Established => None,
+        SdoServerState::SegmentedDownload(t) | SdoServerState::SegmentedUpload(t) => t.deadline,
     }
 }
 
 // Whether a deadline is there and reached.
-pub fn is_past(d: Deadline, clock: u64) -> bool
+pub fn is_past(d: Option<u64>, clock: u64) -> bool
     ensures { result ≡ is_past clock d }
 {
-    match d {
-        Deadline::NoDeadline => false,
-        Deadline::At(n) => n <= clock,
-    }
+    d.is_some_and(|n| n <= clock)
 }
 
 // Whether a record is used and its transfer due.
 pub fn is_due(c: Connection, clock: u64) -> bool
     ensures { result ≡ is_due clock c }
 {
-    let s = c.state;
-    c.used & is_past(transfer_deadline(s), clock)
+    c.used & is_past(transfer_deadline(c.state), clock)
 }
 
 // The earlier of two deadlines.
-pub fn earlier(a: Deadline, b: Deadline) -> Deadline
+#[tactic(auto, unfolding(picks::specs::Pick::pick))]
+pub fn earlier(a: Option<u64>, b: Option<u64>) -> Option<u64>
     ensures { result ≡ earlier a b }
 {
-    match a {
-        Deadline::NoDeadline => b,
-        Deadline::At(n) => match b {
-            Deadline::NoDeadline => a,
-            Deadline::At(m) => Deadline::At(smaller(n, m)),
-        },
+    match (a, b) {
+        (Some(n), Some(m)) => Some(n.min(m)),
+        _ => a.or(b),
     }
-}
-
-// The smaller of two times.
-fn smaller(n: u64, m: u64) -> u64
-    ensures { result ≡ pick (ltb m n) m n }
-{
-    if m < n {
-        return m;
-    }
-    n
 }
 
 // When a record is due, an unused one never.
-pub fn deadline_of(c: Connection) -> Deadline
+#[tactic(auto, unfolding(picks::specs::Pick::pick))]
+pub fn deadline_of(c: Connection) -> Option<u64>
     ensures { result ≡ deadline_of c }
 {
     if c.used {
-        let s = c.state;
-        return transfer_deadline(s);
+        transfer_deadline(c.state)
+    } else {
+        None
     }
-    Deadline::NoDeadline
 }

@@ -1,16 +1,13 @@
--- A turn and the end, by the laws of a fold.
-use Rattle.std.proofs.Common.{refl}
-use Rattle.picks.proofs.Fold.{fold_more, fold_end}
-use Rattle.protocol.specs.ConnectionTable.{deadline_of, earlier, earliest}
+-- A fold over the records.
+use Rattle.protocol.specs.ConnectionTable.{earlier, deadline_of, earliest}
+use Rattle.table.proofs.Walk.{fold_same}
+use Rattle.std.proofs.lemmas.Iterator.{YieldsList-from_slice}
+use Rattle.std.proofs.lemmas.Iterator.Consumers.{fold_from_yields_List}
+use mathlib.Core.Path.{◌∙◌}
+use borrow.Author.Rules.{rules}
 use Rattle.lent.proofs.earliest.Goals as goal
 
-pub loop-i-init : goal.loop-i-init
-unfolding earliest
-loop-i-init c = refl
-
-pub loop-i-preserved : goal.loop-i-preserved
-loop-i-preserved c =
-    rw c.sooner-best.ensures (fold_more (λ d r. earlier d (deadline_of r)) _ _ _ _ c.loop-i.invariant _ c.loop-i-test.true)
-
 pub returns : goal.returns
-returns c = fold_end (λ d r. earlier d (deadline_of r)) _ _ _ _ c.loop-i.invariant c.loop-i-test.false
+unfolding earliest
+returns c =
+    fold_from_yields_List _ (λ d r. earlier d (deadline_of r)) _ _ c.fold.ensures.ran (YieldsList-from_slice c.args.table.now c.iter.ensures.rest) (λ d x b q k. search rules) ∙ fold_same (λ d r. earlier d (deadline_of r)) _ c.args.table.now

@@ -1,11 +1,11 @@
--- A turn looks at the next record; at the end what was found is the place of the first due one.
-use Rattle.std.proofs.Common.{◌∙◌}
-use Rattle.lent.proofs.Search.{due_more, due_end, due_is}
+-- The first record that is due.
+use Rattle.protocol.specs.ConnectionTable.{is_due}
+use Rattle.lent.proofs.Search.{due_found}
+use Rattle.std.proofs.lemmas.Iterator.{YieldsList-from_slice}
+use Rattle.std.proofs.lemmas.Iterator.Search.{position_from_yields_List}
+use borrow.Author.Rules.{rules}
 use Rattle.lent.proofs.first_due.Goals as goal
 
-pub loop-i-preserved : goal.loop-i-preserved
-loop-i-preserved c =
-    rw c.better-best.ensures (due_more _ _ _ _ c.loop-i.invariant _ c.loop-i-test.true)
-
 pub returns : goal.returns
-returns c = due_end _ _ _ _ c.loop-i.invariant c.loop-i-test.false ∙ due_is _ _
+returns c =
+    due_found _ _ _ (position_from_yields_List (is_due c.args.clock) _ _ _ c.position.ensures.ran (YieldsList-from_slice c.args.table.now c.iter.ensures.rest) (λ x b q k. search rules))

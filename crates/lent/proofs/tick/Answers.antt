@@ -1,13 +1,18 @@
 -- A table of another length is refused, and all is left; else the tick looks at the record that the search found.
-use Rattle.std.proofs.Common.{ne_eqb, ◌∙◌}
+use Rattle.std.proofs.Common.{ne_eqb, ◌≡◌, ◌∙◌, rules}
+use Rattle.protocol.specs.Coding.{refused}
+use Rattle.protocol.specs.Tick.{told_ticked}
 use Rattle.lent.proofs.OtherLength.{tick_refused}
 use Rattle.lent.proofs.Search.{tick_at_found}
 use Rattle.lent.proofs.tick.Goals as goal
 
-pub returns-then-table-ne8 : goal.returns-then-table-ne8
-returns-then-table-ne8 c =
-    rw c.no_tick.ensures (tick_refused _ _ _ _ _ (ne_eqb _ _ c.if-table-ne8.true))
+pub returns-in_err-row : goal.returns-in_err-row
+returns-in_err-row c =
+    let e = c.in_err-row.ensures.refused in
+    let t : told_ticked c.from_residual.result ≡ refused 1 = let r = c.from_residual.ensures in search rules in
+    rw t (tick_refused _ _ _ _ _ (ne_eqb _ _ e.0))
 
 pub returns : goal.returns
 returns c =
-    rw c.save.ensures (c.tick_due-r.ensures ∙ (rw (c.load.ensures, c.first_due-due.ensures) (tick_at_found _ _ _ _ _ c.if-table-ne8.false)))
+    let l = c.in_ok-row.ensures.long in
+    rw c.copy_from_slice.ensures.after (c.tick_at-called.ensures ∙ (rw (c.in_ok-row.ensures.loaded, c.first_due-due.ensures) (tick_at_found _ _ _ _ _ l)))

@@ -6,4 +6,4 @@ use Rattle.server.proofs.tick.Goals as goal
 pub returns : goal.returns
 returns c =
     let a = c.args in
-    c.tick_at.ensures ∙ tick_at_chosen a.clock a.image.now a.answer.now a.t a.area.now _ c.first_due.ensures
+    c.tick_at.ensures ∙ tick_at_chosen a.clock a.image.now a.answer.now a.t a.area.now _ c.first_due.ensures.place

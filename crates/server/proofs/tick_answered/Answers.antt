@@ -14,4 +14,4 @@ returns c =
     let a = c.args in
     let short = le-ltb _ _ c.requires.1 in
     let u = c.replaced-row.ensures in
-    same_called a.image.now (c.ticked_to.ensures ∙ ap (λ w. told_to (addressed a.c.client w)) (c.put_answer-w.ensures.told ∙ sym (pick_f _ _ _ _ short refl))) (c.put_answer-w.ensures.left ∙ sym (pick_f _ _ _ _ short refl)) (c.drop_closed.ensures.when_sound (ap sound_table u ∙ c.requires.0) ∙ ap (release is_gone) u) refl
+    same_called a.image.now (c.ticked_to.ensures ∙ ap (λ w. told_to (addressed a.c.client w)) (c.put_answer-written.ensures.told ∙ sym (pick_f _ _ _ _ short refl))) (c.put_answer-written.ensures.left ∙ sym (pick_f _ _ _ _ short refl)) (c.drop_closed.ensures.when_sound (ap sound_table u ∙ c.requires.0) ∙ ap (release is_gone) u) refl

@@ -4,11 +4,7 @@ use Rattle.protocol.specs.ConnectionTable.{areas_once}
 use Rattle.picks.specs.Pick.{checks}
 use lib.ListN.{length, drop}
 use mathlib.Core.Path.{◌≡◌}
-use Prim.Native.Nat.{◌-◌, ◌≤◌}
 use Rattle.table.proofs.areas_once.Given as goal
 
-abbrev pub invariant-loop-i : goal.invariant-loop-i
-invariant-loop-i l = (l.i ≤ 8) × (length l.t ≡ 8) × (length l.seen ≡ 8) × (areas_once l.t ≡ checks unseen mark l.seen (drop l.i l.t))
-
-abbrev pub decreases-loop-i : goal.decreases-loop-i
-decreases-loop-i l = 8 - l.i
+abbrev pub invariant-loop-c : goal.invariant-loop-c
+invariant-loop-c l = (length l.seen ≡ 8) × (areas_once l.fn.t ≡ checks unseen mark l.seen (drop l.c-index l.fn.t))

@@ -1,12 +1,13 @@
--- A loop that drops the first closed record; a sound row is then as `release` has it.
+-- What was dropped is what is dropped from the whole row, and each turn leaves fewer records to drop.
+use Rattle.picks.specs.Pick.{count}
 use Rattle.connection.specs.Among.{is_gone}
 use Rattle.table.specs.Row.{drops_first}
 use lib.ListN.{length}
 use mathlib.Core.Path.{◌≡◌}
 use Rattle.table.proofs.drop_closed.Given as goal
 
-abbrev pub invariant-loop-left : goal.invariant-loop-left
-invariant-loop-left l = (length l.initial.r ≡ 8) × (length l.r ≡ 8) × (drops_first 8 is_gone l.initial.r ≡ drops_first l.left is_gone l.r)
+abbrev pub invariant-loop-i : goal.invariant-loop-i
+invariant-loop-i l = (length l.initial.r ≡ 8) × (length l.r ≡ 8) × (drops_first 8 is_gone l.initial.r ≡ drops_first 8 is_gone l.r)
 
-abbrev pub decreases-loop-left : goal.decreases-loop-left
-decreases-loop-left l = l.left
+abbrev pub decreases-loop-i : goal.decreases-loop-i
+decreases-loop-i l = count is_gone l.r

@@ -1,23 +1,12 @@
--- A scan for the first record that is due.
+-- The first record that is due.
 use Rattle.protocol.specs.ConnectionTable.{is_due, chosen}
-use Rattle.picks.proofs.Picks.{flag}
-use Rattle.picks.proofs.First.{first_more, first_here, first_none}
+use Rattle.table.proofs.Walk.{place_first}
+use Rattle.std.proofs.lemmas.Iterator.{YieldsList-from_slice}
+use Rattle.std.proofs.lemmas.Iterator.Search.{position_from_yields_List}
 use borrow.Author.Rules.{rules}
-use native.Mathlib.Omega.{arith}
 use Rattle.table.proofs.first_due.Goals as goal
 
-pub returns-then-is_due : goal.returns-then-is_due
+pub returns-clause-place : goal.returns-clause-place
 unfolding chosen
-returns-then-is_due c = let l = c.loop-i in first_here (is_due _) _ _ _ (omega arith) (flag c.is_due.ensures c.if-is_due.true) l.invariant.2
-
-pub loop-i-preserved : goal.loop-i-preserved
-loop-i-preserved c =
-    let l = c.loop-i in (
-      search rules,
-      search rules,
-      first_more (is_due _) _ _ _ (omega arith) (flag c.is_due.ensures c.if-is_due.false) l.invariant.2,
-    )
-
-pub returns : goal.returns
-unfolding chosen
-returns c = first_none (is_due _) _ _ (omega arith) c.loop-i.invariant.2
+returns-clause-place c =
+    place_first _ _ _ (search rules) (position_from_yields_List (is_due c.args.clock) _ _ _ c.position.ensures.ran (YieldsList-from_slice c.args.t c.iter.ensures.rest) (λ x b q k. search rules))

@@ -1,7 +1,7 @@
--- A row has no unused record where the first one stands past its end.
+-- A search that tells no place has none in the row.
 use lib.ListN.{length}
 use mathlib.Core.Path.{◌≡◌}
-use Rattle.table.proofs.Walk.{none_left}
+use Rattle.table.proofs.Walk.{none_left, told_past}
 use Rattle.table.specs.Row.{unused_place}
 use Rattle.protocol.specs.ConnectionTable.{is_unused}
 use borrow.Author.Rules.{rules}
@@ -12,4 +12,6 @@ unfolding unused_place
 returns c =
     let a = c.args in
     let l : length a.t ≡ 8 = search rules in
-    rw (c.unused_place-free.ensures, c.place_of-own.ensures, none_left is_unused a.t, l)
+    let own = told_past _ _ _ c.place_of.ensures.place c.place_of.ensures.inside c.is_none.ensures in
+    let free = told_past _ _ _ c.unused_place.ensures.place c.unused_place.ensures.inside c.is_none-2.ensures in
+    rw (own, free, none_left is_unused a.t, l)

@@ -1,23 +1,12 @@
--- A scan for the first record that holds the client.
+-- The first record that holds the client.
 use Rattle.protocol.specs.ConnectionTable.{holds, place_of}
-use Rattle.picks.proofs.Picks.{flag}
-use Rattle.picks.proofs.First.{first_more, first_here, first_none}
+use Rattle.table.proofs.Walk.{place_first}
+use Rattle.std.proofs.lemmas.Iterator.{YieldsList-from_slice}
+use Rattle.std.proofs.lemmas.Iterator.Search.{position_from_yields_List}
 use borrow.Author.Rules.{rules}
-use native.Mathlib.Omega.{arith}
 use Rattle.table.proofs.place_of.Goals as goal
 
-pub returns-then-is_held : goal.returns-then-is_held
+pub returns-clause-place : goal.returns-clause-place
 unfolding place_of
-returns-then-is_held c = let l = c.loop-i in first_here (holds _) _ _ _ (omega arith) (flag c.is_held.ensures c.if-is_held.true) l.invariant.2
-
-pub loop-i-preserved : goal.loop-i-preserved
-loop-i-preserved c =
-    let l = c.loop-i in (
-      search rules,
-      search rules,
-      first_more (holds _) _ _ _ (omega arith) (flag c.is_held.ensures c.if-is_held.false) l.invariant.2,
-    )
-
-pub returns : goal.returns
-unfolding place_of
-returns c = first_none (holds _) _ _ (omega arith) c.loop-i.invariant.2
+returns-clause-place c =
+    place_first _ _ _ (search rules) (position_from_yields_List (holds c.args.client) _ _ _ c.position.ensures.ran (YieldsList-from_slice c.args.t c.iter.ensures.rest) (λ x b q k. search rules))

@@ -1,21 +1,12 @@
--- A loop that asks of every record.
+-- A test of every record.
 use Rattle.protocol.specs.ConnectionTable.{sound_record}
-use Rattle.table.proofs.Walk.{every_more, every_not, every_end}
-use Rattle.picks.proofs.Picks.{flag}
+use Rattle.table.proofs.Walk.{every_all}
+use Rattle.std.proofs.lemmas.Iterator.{YieldsList-from_slice}
+use Rattle.std.proofs.lemmas.Iterator.Search.{all_from_yields_List}
+use mathlib.Core.Path.{◌∙◌}
 use borrow.Author.Rules.{rules}
-use native.Mathlib.Omega.{arith}
 use Rattle.table.proofs.records_sound.Goals as goal
 
-pub loop-i-preserved : goal.loop-i-preserved
-loop-i-preserved c =
-    let l = c.loop-i in (
-      search rules,
-      search rules,
-      every_more sound_record _ _ _ (omega arith) (flag c.sound_record.ensures c.if-sound_record.true) l.invariant.2,
-    )
-
-pub returns-else-sound_record : goal.returns-else-sound_record
-returns-else-sound_record c = let l = c.loop-i in every_not sound_record _ _ _ (omega arith) (flag c.sound_record.ensures c.if-sound_record.false) l.invariant.2
-
 pub returns : goal.returns
-returns c = let l = c.loop-i in every_end sound_record c.args.t l.i (omega arith) l.invariant.2
+returns c =
+    all_from_yields_List sound_record _ _ _ c.all.ensures.ran (YieldsList-from_slice c.args.t c.iter.ensures.rest) (λ x b q k. search rules) ∙ every_all sound_record c.args.t

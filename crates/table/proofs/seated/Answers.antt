@@ -1,25 +1,25 @@
 -- One choice; a sound row that is not full is as `join` has it.
 use Rattle.table.proofs.Sound.{sound_seat}
+use Rattle.table.proofs.Walk.{told_inside}
 use Rattle.protocol.specs.ConnectionTable.{is_known}
 use Rattle.picks.proofs.Picks.{pick_t, pick_f}
-use borrow.Author.Tests.{lt-ltb, le-ltb}
 use lib.ListN.{length}
 use mathlib.Core.Bool.{true, false}
-use mathlib.Core.Path.{◌≡◌, refl, ◌∙◌}
+use mathlib.Core.Path.{◌≡◌, refl, sym, ◌∙◌}
 use borrow.Author.Rules.{rules}
 use Rattle.table.proofs.seated.Goals as goal
 
-pub returns-then-place_of-lt8 : goal.returns-then-place_of-lt8
-returns-then-place_of-lt8 c =
+pub returns-then-is_some : goal.returns-then-is_some
+returns-then-is_some c =
     let a = c.args in
     let l : length a.t ≡ 8 = search rules in
-    let k : is_known a.client a.t ≡ true = rw (l, ← c.place_of.ensures) (lt-ltb _ _ c.if-place_of-lt8.true) in
+    let k : is_known a.client a.t ≡ true = rw l (sym (told_inside _ _ c.place_of.ensures.place c.place_of.ensures.inside) ∙ sym c.is_some.ensures ∙ c.if-is_some.true) in
     record { value = pick_t _ _ _ _ k refl; when_sound = λ s f. pick_t _ _ _ _ k refl }
 
 pub returns : goal.returns
 returns c =
     let a = c.args in
     let l : length a.t ≡ 8 = search rules in
-    let k : is_known a.client a.t ≡ false = rw (l, ← c.place_of.ensures) (le-ltb _ _ c.if-place_of-lt8.false) in
+    let k : is_known a.client a.t ≡ false = rw l (sym (told_inside _ _ c.place_of.ensures.place c.place_of.ensures.inside) ∙ sym c.is_some.ensures ∙ c.if-is_some.false) in
     let p = pick_f _ _ _ _ k c.joined.ensures in
     record { value = p; when_sound = λ s f. p ∙ sound_seat a.t s a.client f }

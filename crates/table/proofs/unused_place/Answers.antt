@@ -1,24 +1,13 @@
--- A scan for the first unused record.
-use Rattle.table.specs.Row.{unused_place}
+-- The first unused record.
 use Rattle.protocol.specs.ConnectionTable.{is_unused}
-use Rattle.picks.proofs.Picks.{flag}
-use Rattle.picks.proofs.First.{first_more, first_here, first_none}
+use Rattle.table.specs.Row.{unused_place}
+use Rattle.table.proofs.Walk.{place_first}
+use Rattle.std.proofs.lemmas.Iterator.{YieldsList-from_slice}
+use Rattle.std.proofs.lemmas.Iterator.Search.{position_from_yields_List}
 use borrow.Author.Rules.{rules}
-use native.Mathlib.Omega.{arith}
 use Rattle.table.proofs.unused_place.Goals as goal
 
-pub returns-then-is_unused : goal.returns-then-is_unused
+pub returns-clause-place : goal.returns-clause-place
 unfolding unused_place
-returns-then-is_unused c = let l = c.loop-i in first_here (is_unused) _ _ _ (omega arith) (flag c.is_unused.ensures c.if-is_unused.true) l.invariant.2
-
-pub loop-i-preserved : goal.loop-i-preserved
-loop-i-preserved c =
-    let l = c.loop-i in (
-      search rules,
-      search rules,
-      first_more (is_unused) _ _ _ (omega arith) (flag c.is_unused.ensures c.if-is_unused.false) l.invariant.2,
-    )
-
-pub returns : goal.returns
-unfolding unused_place
-returns c = first_none (is_unused) _ _ (omega arith) c.loop-i.invariant.2
+returns-clause-place c =
+    place_first _ _ _ (search rules) (position_from_yields_List (is_unused) _ _ _ c.position.ensures.ran (YieldsList-from_slice c.args.t c.iter.ensures.rest) (λ x b q k. search rules))
