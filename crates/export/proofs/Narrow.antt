@@ -20,8 +20,9 @@ use Rattle.protocol.specs.declared.SdoTransferState.{SdoTransferState}
 use Rattle.protocol.specs.declared.SdoServerState.{SdoServerState}
 use Rattle.protocol.specs.declared.SdoServerState.TheVariants.{Closed, Opening, Established, SegmentedDownload, SegmentedUpload}
 use Rattle.protocol.specs.declared.Connection.{Connection}
-use Rattle.protocol.specs.declared.Access.{Access}
-use Rattle.protocol.specs.declared.Access.TheVariants.{Denied, Granted}
+use Rattle.std.specs.Prelude.{Result, Err, Ok}
+use Rattle.protocol.specs.declared.Entry.{Entry}
+use Rattle.protocol.specs.declared.AbortCode.{AbortCode}
 use Rattle.protocol.specs.Constants.{PIECE, SHARE}
 use Rattle.protocol.specs.Coding.{Answer, refused, value}
 use Rattle.protocol.specs.SequenceHeader.{receive_mark, send_mark, next, decode_header, command_part}
@@ -98,9 +99,9 @@ module _ (c : Connection) (share image : List ℕ) (clock : ℕ) (n : NarrowStat
     unfolding read_by_index read_entry read_value
     read_narrow p b = pick_elim NarrowActed (ltb (length p) 4) _ _ (λ e. tt) (λ e. by_access (readable (lookup image (index_of p) (sub_of p))))
       where
-        by_access : (a : Access) → NarrowActed (read_entry c share image clock transaction (index_of p) (sub_of p) a)
-        by_access (Denied code) = tt
-        by_access (Granted e) =
+        by_access : (a : Result Entry AbortCode) → NarrowActed (read_entry c share image clock transaction (index_of p) (sub_of p) a)
+        by_access (Err code) = tt
+        by_access (Ok e) =
             let v = value_of image e in
             pick_elim NarrowActed (leb (length v) PIECE) _ _ (λ f. n) (λ f. advance_narrow (splice 0 v share) (new_upload c share image clock transaction (length v) (index_of p) (sub_of p)) (index_narrow p b))
 
@@ -108,9 +109,9 @@ module _ (c : Connection) (share image : List ℕ) (clock : ℕ) (n : NarrowStat
     unfolding write_object write_entry
     object_narrow share' next' index sub bytes h = by_access (writable (lookup image index sub) (length bytes))
       where
-        by_access : (a : Access) → NarrowActed (write_entry c share' image clock transaction next' bytes a)
-        by_access (Denied code) = tt
-        by_access (Granted e) = h
+        by_access : (a : Result Entry AbortCode) → NarrowActed (write_entry c share' image clock transaction next' bytes a)
+        by_access (Err code) = tt
+        by_access (Ok e) = h
 
     initiate_narrow : (total : ℕ) (p : List ℕ) → AllBytes p → NarrowActed (write_initiate c share image clock transaction total p)
     unfolding write_initiate

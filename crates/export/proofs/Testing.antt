@@ -1,11 +1,11 @@
 -- The tests on the table's bytes are those on the row that they stand for; what a test refuses leaves all.
-use Prim.Native.Nat.{ℕ}
+use Prim.Native.Nat.{ℕ, ◌<◌}
 use mathlib.Core.Path.{◌≡◌, refl, sym, ap, ◌∙◌}
 use mathlib.Core.Bool.{Bool, true, false, ◌&&◌, not}
 use mathlib.Core.List.{List, [], ◌∷◌}
 use lib.ListN.{length}
 use lib.Dec.{ltb, eqb}
-use Rattle.picks.specs.Pick.{pick, every}
+use Rattle.picks.specs.Pick.{pick, first, every}
 use Rattle.picks.proofs.Picks.{pick_t, pick_f, pick_elim}
 use Rattle.picks.proofs.Keep.{by_test, not_both, of_both}
 use Rattle.protocol.specs.declared.Refusal.{Refusal}
@@ -14,8 +14,9 @@ use Rattle.protocol.specs.declared.SdoClientInfo.{SdoClientInfo}
 use Rattle.protocol.specs.declared.Connection.{Connection}
 use Rattle.protocol.specs.Coding.{refusal_number}
 use Rattle.protocol.specs.ConnectionTable.{sound_table, place_of, is_known, is_unused, unused_of}
-use Rattle.table.specs.Row.{unused_place}
-use Rattle.table.proofs.Walk.{none_left}
+use Rattle.std.specs.Prelude.{Option, IfSome, is_some}
+use Rattle.table.specs.Row.{place_in, unused_place}
+use Rattle.table.proofs.Walk.{none_left, told_past}
 use Rattle.protocol.specs.Calls.{Test, Verdict, refuse, accept, verdict}
 use Rattle.protocol.specs.Request.{request_tests, on_verdict, request_of}
 use Rattle.protocol.specs.Tick.{tick_tests, on_tick_verdict, tick_of}
@@ -90,9 +91,10 @@ module _ (clock : ℕ) (image answer : List ℕ) (row : List Connection) (area b
       ap (λ u. and_then u w) (sym (tick_tests_lem clock image answer row area l (sound_table row) refl ∙ v)) ∙ request_tests_lem clock image answer row area l (sound_table row) refl client request full f
 
 -- a row of eight is full by its places
-pub full_is : (client : SdoClientInfo) (row : List Connection) (place free : ℕ) → length row ≡ 8 → place ≡ place_of client row → free ≡ unused_place row → (not (ltb place 8) && not (ltb free 8)) ≡ (not (is_known client row) && eqb (length (unused_of row)) 0)
+pub full_is : (client : SdoClientInfo) (row : List Connection) (place free : Option ℕ) (a b : Bool) → length row ≡ 8 → place_in place ≡ place_of client row → IfSome place (λ i. i < 8) → place_in free ≡ unused_place row → IfSome free (λ i. i < 8) → is_some place ≡ not a → is_some free ≡ not b → (a && b) ≡ (not (is_known client row) && eqb (length (unused_of row)) 0)
 unfolding unused_place
-full_is client row place free l ep ef = rw (ep, ef, none_left is_unused row, l)
+full_is client row place free a b l ep hp ef hf na nb =
+    rw (told_past place (place_of client row) a ep hp na, told_past free (first is_unused row) b ef hf nb, none_left is_unused row, l)
 
 -- the row that bytes stand for
 module _ (known : Bool) (bytes : List ℕ) where

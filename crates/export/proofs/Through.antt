@@ -9,13 +9,12 @@ use Rattle.picks.proofs.Picks.{pick_t}
 use Rattle.octets.specs.Octets.{le, le_bytes, splice, AllBytes}
 use Rattle.octets.proofs.Little.{length_le_bytes, le_bytes_le}
 use Rattle.protocol.specs.declared.Connection.{Connection}
-use Rattle.protocol.specs.declared.TickedRow.{TickedRow}
-use Rattle.protocol.specs.declared.Deadline.{Deadline}
-use Rattle.protocol.specs.declared.NextAction.{NextAction}
+use Rattle.protocol.specs.declared.Answered.{Answered}
+use Rattle.protocol.specs.declared.Called.{Called}
+use Rattle.std.specs.Prelude.{Option, Ok}
 use Rattle.protocol.specs.Coding.{refused}
 use Rattle.protocol.specs.ConnectionTable.{sound_table, earliest}
 use Rattle.protocol.specs.DeadlineQuery.{told_next_action, query_of}
-use Rattle.server.specs.Left.{next_action}
 use Rattle.server.proofs.Calls.{query_sound, query_unsound}
 use Rattle.protocol.specs.Request.{request_of}
 use Rattle.protocol.specs.Tick.{told_ticked, told_ticked_row, tick_of}
@@ -52,18 +51,18 @@ tick_through_lem clock image answer table area t t' table' answer' told long et 
     let f : left_by tick_answer t (tick_of clock image answer (row_of true t) area) ≡ left_by tick_answer table (tick_of clock image answer (row_of true table) area) = rw et in
     pick_t _ _ _ _ (eq-eqb _ _ long) (ap (λ b. left told b area image answer') el ∙ e ∙ f)
 
-pub tick_by_row : (clock : ℕ) (image answer t area : List ℕ) (row : List Connection) (done : TickedRow) (told : SdoAnswer) (t' answer' : List ℕ) → row ≡ row_of true t → told_ticked_row done answer' area image ≡ tick_of clock image answer row area → told ≡ tick_answer (told_ticked done.outcome) → t' ≡ table_left told.outcome done.table t → left told t' area image answer' ≡ left_by tick_answer t (tick_of clock image answer (row_of true t) area)
+pub tick_by_row : (clock : ℕ) (image answer t area : List ℕ) (row : List Connection) (done : Called (Option Answered)) (told : SdoAnswer) (t' answer' : List ℕ) → row ≡ row_of true t → told_ticked_row done answer' area image ≡ tick_of clock image answer row area → told ≡ tick_answer (told_ticked done.outcome) → t' ≡ table_left told.outcome done.table t → left told t' area image answer' ≡ left_by tick_answer t (tick_of clock image answer (row_of true t) area)
 tick_by_row clock image answer t area row done told t' answer' er e et el =
     let f : tick_of clock image answer row area ≡ tick_of clock image answer (row_of true t) area = rw er in
     let g : left told t' area image answer' ≡ left_by tick_answer t (told_ticked_row done answer' area image) = rw (el, et) in
     g ∙ ap (left_by tick_answer t) (e ∙ f)
 
 -- the deadline query on a copy of the table's bytes
-pub query_sound_bytes : (table t : List ℕ) (d : Deadline) (o : NextAction) → length table ≡ 320 → t ≡ table → d ≡ earliest (table_of t) → o ≡ next_action d → (is_table t && sound_table (table_of t)) ≡ true → query_answer (told_next_action o) ≡ query_bytes table
+pub query_sound_bytes : (table t : List ℕ) (d : Option ℕ) → length table ≡ 320 → t ≡ table → d ≡ earliest (table_of t) → (is_table t && sound_table (table_of t)) ≡ true → query_answer (told_next_action (Ok d)) ≡ query_bytes table
 unfolding query_bytes
-query_sound_bytes table t d o long et ed eo s =
+query_sound_bytes table t d long et ed s =
     let row : row_of true t ≡ table_of t = row_is true t (sym (sound_row true t) ∙ s) in
-    let f : told_next_action o ≡ query_of (table_of t) = ap told_next_action (eo ∙ ap next_action ed) ∙ query_sound (table_of t) (length_table_of t) (ap sound_table (sym row) ∙ sym (sound_row true t) ∙ s) in
+    let f : told_next_action (Ok d) ≡ query_of (table_of t) = ap (λ e. told_next_action (Ok e)) ed ∙ query_sound (table_of t) (length_table_of t) (ap sound_table (sym row) ∙ sym (sound_row true t) ∙ s) in
     pick_t _ _ _ _ (eq-eqb _ _ long) (ap query_answer (f ∙ ap query_of (sym row)) ∙ ap (λ b. query_answer (query_of (row_of true b))) et)
 
 pub query_unsound_bytes : (table t : List ℕ) → length table ≡ 320 → t ≡ table → (is_table t && sound_table (table_of t)) ≡ false → query_answer (refused 3) ≡ query_bytes table

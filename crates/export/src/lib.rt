@@ -18,14 +18,13 @@ ghost use Rattle.seats.specs.Seats.{settled_in};
 ghost use Rattle.export.specs.Admitted.{Admitted};
 
 use outcomes::{SdoAnswer, SdoDeadline};
-use protocol::{Checked, Connection, Handled, NextAction, Refusal, SdoClientInfo, SdoResponseData};
+use protocol::{Connection, Refusal, SdoClientInfo, SdoResponseData};
 use seats::Seat;
 
 // An answered request: the answer's bytes, and the table after it.
 fn answered<'a>(
     t: &mut [u8; 320],
     s: Seat,
-    free: usize,
     next: Connection,
     client: SdoClientInfo,
     r: SdoResponseData,
@@ -35,13 +34,12 @@ fn answered<'a>(
 ) -> SdoAnswer
     requires { ANSWER_MIN ≤ length answer.old }
     ensures returned { result ≡ answers_to (record { client = client; size = length (frame (told_reply r (share_of area.now s.own.area) image.now)) }) }
-    ensures table_left { t.new ≡ table_bytes (settled_in s free next (table_of t.old)) }
+    ensures table_left { t.new ≡ table_bytes (settled_in s.place next (table_of t.old)) }
     ensures answer_left { answer.new ≡ splice 0 (frame (told_reply r (share_of area.now s.own.area) image.now)) answer.old }
 {
-    let own = s.own;
-    let w = server::put_answer(r, area, own.area, image, answer);
-    seats::settle(t, s, free, next);
-    outcomes::of_request(server::addressed(client, w))
+    let written = server::put_answer(r, area, s.own.area, image, answer);
+    seats::settle(t, s.place, next);
+    outcomes::of_request(server::addressed(client, written))
 }
 
 // A request that passed the tests: the client's record is served and goes to its seat.
@@ -51,8 +49,8 @@ fn accepted(
     image: &mut [u8],
     answer: &mut [u8],
     client: SdoClientInfo,
-    place: usize,
-    free: usize,
+    place: Option<usize>,
+    free: Option<usize>,
     clock: u64,
     request: &[u8],
 ) -> SdoAnswer
@@ -60,14 +58,14 @@ fn accepted(
     ensures { left result t.new area.new image.new answer.new ≡ left_by request_answer t.old (accepted client clock request.now image.old answer.old (table_of t.old) area.old) }
 {
     let s = seats::seat_of(t, client, place, free);
-    let own = s.own;
-    let handled = server::serve_record(own, area, image, clock, request);
-    match handled {
-        Handled::Refused(next, x) => {
-            seats::put_back(t, s, free, next);
-            outcomes::only(outcomes::refusal_number(x))
+    let served = server::serve_record(s.own, area, image, clock, request);
+    let next = served.connection;
+    match served.said {
+        Ok(r) => answered(t, s, next, client, r, area, image, answer),
+        Err(x) => {
+            seats::put_back(t, s.place, next);
+            outcomes::refused(x)
         }
-        Handled::Answered(next, r) => answered(t, s, free, next, client, r, area, image, answer),
     }
 }
 
@@ -86,11 +84,9 @@ fn admitted(
 {
     let place = packed::place_of(t, client);
     let free = packed::unused_place(t);
-    let full = !(place < 8) & !(free < 8);
-    let checked = refusals::check_frame(request.len(), full);
-    match checked {
-        Checked::Refused(x) => outcomes::only(outcomes::refusal_number(x)),
-        Checked::Accepted => accepted(t, area, image, answer, client, place, free, clock, request),
+    match refusals::check_frame(request.len(), place.is_none() & free.is_none()) {
+        Ok(()) => accepted(t, area, image, answer, client, place, free, clock, request),
+        Err(x) => outcomes::refused(x),
     }
 }
 
@@ -108,29 +104,10 @@ fn handle_request(
 {
     let sound = clients::is_client(who) & packed::is_sound(t);
     let client = clients::client_in(who);
-    let checked = refusals::check_lent(sound, area, image, answer, clock);
-    match checked {
-        Checked::Refused(x) => outcomes::only(outcomes::refusal_number(x)),
-        Checked::Accepted => admitted(t, area, image, answer, client, clock, request),
+    match refusals::check_lent(sound, area, image, answer, clock) {
+        Ok(()) => admitted(t, area, image, answer, client, clock, request),
+        Err(x) => outcomes::refused(x),
     }
-}
-
-// The table's bytes where 320 are lent.
-fn lent_bytes(table: &[u8]) -> [u8; 320]
-    requires { length table.now ≡ 320 }
-    ensures { result ≡ table.now }
-{
-    let mut t = [0; 320];
-    octets::copy_at(&mut t, 0, table);
-    t
-}
-
-// The table's bytes are stored where 320 are lent.
-fn give_back(table: &mut [u8], t: &[u8; 320])
-    requires { length table.old ≡ 320 }
-    ensures { table.new ≡ t.now }
-{
-    octets::copy_at(table, 0, t);
 }
 
 // A request from a client.
@@ -145,14 +122,13 @@ pub fn sdo_handle_request(
 ) -> SdoAnswer
     ensures { left result table.new area.new image.new answer.new ≡ request_bytes client clock request.now image.old answer.old table.old area.old }
 {
-    if table.len() != 320 {
+    let Some(bytes) = table.as_array() else {
         return outcomes::only(1);
-    }
-    let mut who = [0; 8];
-    octets::store_u64(&mut who, 0, client);
-    let mut t = lent_bytes(table);
+    };
+    let mut t = *bytes;
+    let who = client.to_le_bytes();
     let told = handle_request(&mut t, area, image, answer, &who, clock, request);
-    give_back(table, &t);
+    table.copy_from_slice(&t);
     told
 }
 
@@ -168,13 +144,12 @@ fn quiet_tick<'a>(
     ensures { left result t.new area.now image.now answer.now ≡ left_by tick_answer t.old (tick_of clock image.now answer.now (row_of true t.old) area.now) }
 {
     let sound = packed::is_sound(t);
-    let checked = refusals::check_lent(sound, area, image, answer, clock);
-    match checked {
-        Checked::Refused(x) => outcomes::only(outcomes::refusal_number(x)),
-        Checked::Accepted => {
+    match refusals::check_lent(sound, area, image, answer, clock) {
+        Ok(()) => {
             packing::tidy(t);
             outcomes::only(255)
         }
+        Err(x) => outcomes::refused(x),
     }
 }
 
@@ -192,10 +167,8 @@ fn tick<'a>(
         return quiet_tick(t, area, image, answer, clock);
     }
     let done = server::tick(outcomes::row_of(t), area, image, answer, clock);
-    let outcome = done.outcome;
-    let next = done.table;
-    let told = outcomes::of_tick(outcome);
-    outcomes::leave(t, next, told.outcome);
+    let told = outcomes::of_tick(done.outcome);
+    outcomes::leave(t, done.table, told.outcome);
     told
 }
 
@@ -209,12 +182,12 @@ pub fn sdo_tick<'a>(
 ) -> SdoAnswer
     ensures { left result table.new area.now image.now answer.new ≡ tick_bytes clock image.now answer.old table.old area.now }
 {
-    if table.len() != 320 {
+    let Some(bytes) = table.as_array() else {
         return outcomes::only(1);
-    }
-    let mut t = lent_bytes(table);
+    };
+    let mut t = *bytes;
     let told = tick(&mut t, area, image, answer, clock);
-    give_back(table, &t);
+    table.copy_from_slice(&t);
     told
 }
 
@@ -222,12 +195,12 @@ pub fn sdo_tick<'a>(
 pub fn sdo_next_action_time(table: &[u8]) -> SdoDeadline
     ensures { result ≡ query_bytes table.now }
 {
-    if table.len() != 320 {
+    let Some(t) = table.as_array() else {
         return SdoDeadline { outcome: 1, at: 0 };
+    };
+    if packed::is_sound(t) {
+        outcomes::of_query(Ok(packed::next_deadline(t)))
+    } else {
+        outcomes::of_query(Err(Refusal::Table))
     }
-    let t = lent_bytes(table);
-    if packed::is_sound(&t) {
-        return outcomes::of_query(server::next_action(packed::next_deadline(&t)));
-    }
-    outcomes::of_query(NextAction::Refused(Refusal::Table))
 }

@@ -1,9 +1,7 @@
 -- What a call answers, as numbers, and what it leaves of the table's bytes.
-use Rattle.std.specs.Prelude.{ℕ, Bool, ◌&&◌, List, replicate, ltb}
+use Rattle.std.specs.Prelude.{ℕ, Bool, ◌&&◌, List, replicate, ltb, Option, None, Some}
 use Rattle.picks.specs.Pick.{pick}
 use Rattle.octets.specs.Octets.{le}
-use Rattle.protocol.specs.declared.Deadline.{Deadline}
-use Rattle.protocol.specs.declared.Deadline.TheVariants.{NoDeadline, At}
 use Rattle.protocol.specs.declared.Connection.{Connection}
 use Rattle.protocol.specs.Coding.{Answer, refused, value}
 use Rattle.protocol.specs.ConnectionTable.{fresh}
@@ -30,10 +28,10 @@ tick_answer (value nobody) = only 255
 tick_answer (value (somebody x)) = answers_to x
 
 -- a deadline's time is 0 where the outcome is not 254
-abbrev pub query_answer : Answer Deadline → SdoDeadline
+abbrev pub query_answer : Answer (Option ℕ) → SdoDeadline
 query_answer (refused n) = record { outcome = n; at = 0 }
-query_answer (value NoDeadline) = record { outcome = 255; at = 0 }
-query_answer (value (At n)) = record { outcome = 254; at = n }
+query_answer (value None) = record { outcome = 255; at = 0 }
+query_answer (value (Some n)) = record { outcome = 254; at = n }
 
 -- bytes that are no table, and those of any table for a client that is none, stand for a row that is not sound: they are refused with 3, after 1 and 2
 abbrev pub no_table : List Connection

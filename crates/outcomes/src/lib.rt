@@ -10,9 +10,9 @@ ghost use Rattle.protocol.specs.DeadlineQuery.{told_next_action};
 ghost use Rattle.format.specs.Format.{client_bytes};
 ghost use Rattle.outcomes.specs.Outcomes.{only, answers_to, request_answer, tick_answer, query_answer, row_of, table_left};
 
-use protocol::{Connection, NextAction, Outcome, Refusal, SdoClientInfo, Ticked};
+use protocol::{Answered, Connection, Refusal, SdoClientInfo};
 
-// What a call answered: 0 and the answer's length and client, a refusal's number, or 255 where nobody is answered.
+// What a call answered: 0 and the answer's length and client, a refusal's number, or 255 where nobody is answered. (C's interface: numbers for kinds, and zeros beside them.)
 #[repr(C)]
 #[derive(Clone, Copy)]
 pub struct SdoAnswer {
@@ -21,7 +21,7 @@ pub struct SdoAnswer {
     pub client: u64,
 }
 
-// What the deadline query answered: 254 and the deadline, a refusal's number, or 255 without a deadline.
+// What the deadline query answered: 254 and the deadline, a refusal's number, or 255 without a deadline. (C's interface too.)
 #[repr(C)]
 #[derive(Clone, Copy)]
 pub struct SdoDeadline {
@@ -33,24 +33,7 @@ pub struct SdoDeadline {
 fn client_number(client: SdoClientInfo) -> u64
     ensures { result ≡ le (client_bytes client) }
 {
-    octets::u64_at(&clients::client_bytes(client), 0)
-}
-
-// The number of a refusal.
-pub fn refusal_number(r: Refusal) -> u64
-    ensures { result ≡ refusal_number r }
-{
-    match r {
-        Refusal::Lent => 1,
-        Refusal::Image => 2,
-        Refusal::Table => 3,
-        Refusal::Clock => 4,
-        Refusal::Short => 5,
-        Refusal::Long => 6,
-        Refusal::Full => 7,
-        Refusal::Sequence => 8,
-        Refusal::EmptyCommand => 9,
-    }
+    octets::number_at(&clients::client_bytes(client), 0)
 }
 
 // A number alone.
@@ -58,81 +41,82 @@ pub fn only(outcome: u64) -> SdoAnswer
     ensures { result ≡ only outcome }
 {
     SdoAnswer {
-        outcome: outcome,
+        outcome,
         length: 0,
         client: 0,
     }
 }
 
+// A refusal.
+pub fn refused(x: Refusal) -> SdoAnswer
+    ensures { result ≡ only (refusal_number x) }
+{
+    only(x as u64)
+}
+
 // An answer.
-fn answers(client: SdoClientInfo, n: usize) -> SdoAnswer
-    ensures { result ≡ answers_to (record { client = client; size = n }) }
+fn answers(a: Answered) -> SdoAnswer
+    ensures { result ≡ answers_to (record { client = a.client; size = a.length }) }
 {
     SdoAnswer {
         outcome: 0,
-        length: n as u64,
-        client: client_number(client),
+        length: a.length as u64,
+        client: client_number(a.client),
     }
 }
 
 // What a request says, as numbers.
-pub fn of_request(o: Outcome) -> SdoAnswer
+pub fn of_request(o: Result<Answered, Refusal>) -> SdoAnswer
     ensures { result ≡ request_answer (told_outcome o) }
 {
     match o {
-        Outcome::Refused(r) => only(refusal_number(r)),
-        Outcome::Answered(client, n) => answers(client, n),
+        Ok(a) => answers(a),
+        Err(x) => refused(x),
     }
 }
 
 // What a tick says, as numbers.
-pub fn of_tick(o: Ticked) -> SdoAnswer
+pub fn of_tick(o: Result<Option<Answered>, Refusal>) -> SdoAnswer
     ensures { result ≡ tick_answer (told_ticked o) }
 {
     match o {
-        Ticked::Refused(r) => only(refusal_number(r)),
-        Ticked::Nothing => only(255),
-        Ticked::Answered(client, n) => answers(client, n),
+        Ok(Some(a)) => answers(a),
+        Ok(None) => only(255),
+        Err(x) => refused(x),
     }
 }
 
 // What the deadline query says, as numbers.
-pub fn of_query(o: NextAction) -> SdoDeadline
+pub fn of_query(o: Result<Option<u64>, Refusal>) -> SdoDeadline
     ensures { result ≡ query_answer (told_next_action o) }
 {
-    match o {
-        NextAction::Refused(r) => SdoDeadline {
-            outcome: refusal_number(r),
-            at: 0,
-        },
-        NextAction::Nothing => SdoDeadline {
-            outcome: 255,
-            at: 0,
-        },
-        NextAction::At(time) => SdoDeadline {
-            outcome: 254,
-            at: time,
-        },
-    }
+    let (outcome, at) = match o {
+        Ok(Some(time)) => (254, time),
+        Ok(None) => (255, 0),
+        Err(x) => (x as u64, 0),
+    };
+    SdoDeadline { outcome, at }
 }
 
 // The row that a table's bytes stand for: one that is not sound where they are none.
+#[tactic(auto, unfolding(picks::specs::Pick::pick, crate::specs::Outcomes::row_of))]
 pub fn row_of(t: &[u8; 320]) -> [Connection; 8]
     ensures { result ≡ row_of true t.now }
 {
     if record::is_table(t) {
-        return record::table_of(t);
+        record::table_of(t)
+    } else {
+        [connection::fresh(0); 8]
     }
-    [connection::fresh(0); 8]
 }
 
 // The table's bytes after a call on its row: refusals 1 to 7 leave them.
+#[tactic(auto, unfolding(picks::specs::Pick::pick, crate::specs::Outcomes::table_left))]
 pub fn leave(t: &mut [u8; 320], row: [Connection; 8], outcome: u64)
     ensures { t.new ≡ table_left outcome row t.old }
 {
     let left = (0 < outcome) & (outcome < 8);
-    if left {
-        return;
+    if !left {
+        *t = record::table_bytes(row);
     }
-    record::put_table(t, row);
 }

@@ -1,9 +1,9 @@
--- What a record's bytes say of it, and the table of the bytes by its places.
+-- What a record's bytes say of it.
 use Prim.Native.Nat.{ℕ, zero, suc, ◌+◌, ◌*◌}
 use native.Mathlib.Omega.{arith}
 use native.Mathlib.Nat.{add-zero}
 use mathlib.Core.Path.{◌≡◌, refl, sym, ap, ◌∙◌}
-use mathlib.Core.Bool.{Bool, true, false, ◌&&◌}
+use mathlib.Core.Bool.{Bool, true, false, not, ◌&&◌, ◌||◌}
 use mathlib.Core.List.{List}
 use lib.ListN.{take, drop}
 use lib.Dec.{ltb, eqb}
@@ -14,14 +14,13 @@ use Rattle.picks.proofs.Picks.{pick_ap}
 use Rattle.picks.proofs.Keep.{by_test, not_both}
 use Rattle.octets.specs.Octets.{le}
 use Rattle.protocol.specs.declared.SdoClientInfo.TheVariants.{Asnd, Udp}
-use Rattle.protocol.specs.declared.Deadline.{Deadline}
-use Rattle.protocol.specs.declared.Deadline.TheVariants.{NoDeadline, At}
+use Rattle.std.specs.Prelude.{Option, None}
 use Rattle.protocol.specs.declared.SdoServerState.{SdoServerState}
 use Rattle.protocol.specs.declared.SdoServerState.TheVariants.{Closed, Opening, Established, SegmentedDownload, SegmentedUpload}
-use Rattle.protocol.specs.ConnectionTable.{same_client, is_closed, sound_upload, sound_download, sound_state, transfer_deadline, is_past, earlier}
-use Rattle.format.specs.Format.{byte_at, number_at, big, client_of, transfer_of, state_of}
+use Rattle.protocol.specs.ConnectionTable as Table
+use Rattle.protocol.specs.ConnectionTable.{same_client, is_closed, sound_upload, sound_download, sound_state, transfer_deadline, is_past}
+use Rattle.format.specs.Format.{byte_at, number_at, big, client_of, deadline_of, transfer_of, state_of, record_of}
 use Rattle.format.proofs.Reading.{number_more}
-use Rattle.packed.specs.Packed.{due_time}
 
 -- what is true of a state, by its number
 pub state_ap : {A : Type 0} (f : SdoServerState → A) (s : List ℕ) → f (state_of s) ≡ pick (eqb (byte_at 12 s) 0) (f Closed) (pick (eqb (byte_at 12 s) 1) (f Opening) (pick (eqb (byte_at 12 s) 2) (f Established) (pick (eqb (byte_at 12 s) 3) (f (SegmentedUpload (transfer_of s))) (f (SegmentedDownload (transfer_of s))))))
@@ -56,25 +55,40 @@ unfolding pick
 alike true x = refl
 alike false x = refl
 
-pub time_is : (s : List ℕ) → transfer_deadline (state_of s) ≡ pick (ltb (byte_at 12 s) 3) NoDeadline (due_time s)
+pub time_is : (s : List ℕ) → transfer_deadline (state_of s) ≡ pick (ltb (byte_at 12 s) 3) None (deadline_of s)
 unfolding transfer_of
 time_is s =
     let n = byte_at 12 s in
-    state_ap transfer_deadline s ∙ below_three n NoDeadline (due_time s) (due_time s) ∙ ap (pick (ltb n 3) NoDeadline) (alike (eqb n 3) (due_time s))
+    state_ap transfer_deadline s ∙ below_three n None (deadline_of s) (deadline_of s) ∙ ap (pick (ltb n 3) None) (alike (eqb n 3) (deadline_of s))
 
 pub sound_is : (s : List ℕ) → sound_state (state_of s) ≡ pick (ltb (byte_at 12 s) 3) true (pick (eqb (byte_at 12 s) 3) (sound_upload (transfer_of s)) (sound_download (transfer_of s)))
 sound_is s = state_ap sound_state s ∙ below_three (byte_at 12 s) true (sound_upload (transfer_of s)) (sound_download (transfer_of s))
 
+-- a record without a transfer or not used is never due
+never : (u n : Bool) (d : Option ℕ) → pick u (pick n None d) None ≡ pick (not u || n) None d
+unfolding pick
+never true true d = refl
+never true false d = refl
+never false n d = refl
+
+pub due_is : (s : List ℕ) → Table.deadline_of (record_of s) ≡ pick (not (record_of s).used || ltb (byte_at 12 s) 3) None (deadline_of s)
+unfolding record_of
+due_is s = ap (λ (d : Option ℕ). pick (record_of s).used d None) (time_is s) ∙ never (record_of s).used (ltb (byte_at 12 s) 3) (deadline_of s)
+
 -- only a used record's deadline passes
-pub past_used : (clock : ℕ) (u : Bool) (d : Deadline) → is_past clock (pick u d NoDeadline) ≡ (u && is_past clock d)
+pub past_used : (clock : ℕ) (u : Bool) (d : Option ℕ) → is_past clock (pick u d None) ≡ (u && is_past clock d)
 unfolding pick
 past_used clock true d = refl
 past_used clock false d = refl
 
--- a deadline beside none stays
-pub earlier_none : (d : Deadline) → earlier d NoDeadline ≡ d
-earlier_none NoDeadline = refl
-earlier_none (At n) = refl
+-- whether a tick finds nothing to do, by whether the record is used
+pub quiet_used : (u p g : Bool) → u ≡ true → (not (u && p) && not g) ≡ (not (u && p) && not (u && g))
+quiet_used true p g e = refl
+quiet_used false p g e = not_both e refl
+
+pub quiet_unused : (u p g : Bool) → u ≡ false → true ≡ (not (u && p) && not (u && g))
+quiet_unused true p g e = not_both refl e
+quiet_unused false p g e = refl
 
 -- eight bytes are 0 exactly if their number is
 next_byte : (n k : ℕ) (x : List ℕ) → le (take (suc n) (drop k x)) ≡ byte_at k x + 256 * le (take n (drop (k + 1) x))

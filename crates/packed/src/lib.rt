@@ -1,205 +1,109 @@
-// The table in its 320 bytes (oracle/REPLAY.md): what `table` says of a row, asked of the bytes with no row made of them.
+// The table in its 320 bytes (oracle/REPLAY.md): what `table` says of a row, asked of the records' bytes with no row made of them.
 #![tactic(auto)]
 
-ghost use Rattle.std.specs.Prelude.{◌≡◌, true, ◌&&◌, ◌+◌, ◌<◌, ◌≤◌, get_or};
+ghost use Rattle.std.specs.Prelude.{◌≡◌, true, ◌&&◌, ◌<◌, get_or, IfSome};
 ghost use Rattle.picks.specs.Pick.{every};
 ghost use Rattle.protocol.specs.declared.SdoClientInfo.TheVariants.{Asnd};
-ghost use Rattle.protocol.specs.ConnectionTable.{before, same_client, is_fresh, fresh, holds, place_of, sound_state, sound_record, transfer_deadline, deadline_of, earliest, ordered, areas_once, sound_table};
-ghost use Rattle.format.specs.Format.{byte_at, number_at, transfer_of, is_table, table_of};
+ghost use Rattle.protocol.specs.ConnectionTable.{before, same_client, is_fresh, fresh, holds, place_of, sound_state, sound_record, deadline_of, earliest, ordered, areas_once, sound_table};
+ghost use Rattle.format.specs.Format.{record_of, is_table, table_of};
 ghost use Rattle.connection.specs.Among.{follows, is_behind};
-ghost use Rattle.table.specs.Row.{unused_place, seat_place};
-ghost use Rattle.packed.specs.Packed.{bytes_of, at, due_time, is_quiet};
+ghost use Rattle.table.specs.Row.{place_in, unused_place, seat_place};
+ghost use Rattle.packed.specs.Packed.{is_quiet};
 
-use protocol::{Connection, Deadline, SdoClientInfo, SdoTransferState};
+use protocol::{Connection, SdoClientInfo};
 
-// A byte of the record at a place.
-fn byte(t: &[u8; 320], i: usize, k: usize) -> u8
-    requires { (i < 8) × (k < 40) }
-    ensures { result ≡ byte_at k (bytes_of i t.now) }
+// Whether a record is used.
+fn is_used(r: &[u8; 40]) -> bool
+    ensures { result ≡ (record_of r.now).used }
 {
-    t[40 * i + k]
+    r[0] == 1
 }
 
-// A u16 of the record at a place.
-fn u16_of(t: &[u8; 320], i: usize, k: usize) -> u16
-    requires { (i < 8) × (k + 2 ≤ 40) }
-    ensures { result ≡ number_at 2 k (bytes_of i t.now) }
+// Whether a record's client is ASnd with zeros: its eight bytes are 0.
+fn is_nobody(r: &[u8; 40]) -> bool
+    ensures { result ≡ same_client (record_of r.now).client (Asnd 0 0) }
 {
-    octets::u16_at(t, 40 * i + k)
+    octets::number_at::<u64, _>(r, 1) == 0
 }
 
-// A u32 of the record at a place.
-fn u32_of(t: &[u8; 320], i: usize, k: usize) -> u32
-    requires { (i < 8) × (k + 4 ≤ 40) }
-    ensures { result ≡ number_at 4 k (bytes_of i t.now) }
+// Whether a record is unused and fresh, but for its area number.
+fn is_fresh(r: &[u8; 40]) -> bool
+    ensures { result ≡ is_fresh (record_of r.now) }
 {
-    octets::u32_at(t, 40 * i + k)
+    !is_used(r) & is_nobody(r) & (r[10] == 0) & (r[11] == 63) & (r[12] == 0)
 }
 
-// A u64 of the record at a place.
-fn u64_of(t: &[u8; 320], i: usize, k: usize) -> u64
-    requires { (i < 8) × (k + 8 ≤ 40) }
-    ensures { result ≡ number_at 8 k (bytes_of i t.now) }
+// Whether a client stands before another, as their derived order has it. (By `<` itself a deadline query of eight clients takes 8 % more instructions.)
+fn is_before(a: SdoClientInfo, b: SdoClientInfo) -> bool
+    ensures { result ≡ before a b }
 {
-    octets::u64_at(t, 40 * i + k)
-}
-
-// Whether the record at a place is used.
-fn used_at(t: &[u8; 320], i: usize) -> bool
-    requires { i < 8 }
-    ensures { result ≡ (at i t.now).used }
-{
-    byte(t, i, 0) == 1
-}
-
-// The client of the record at a place.
-fn client_at(t: &[u8; 320], i: usize) -> SdoClientInfo
-    requires { i < 8 }
-    ensures { result ≡ (at i t.now).client }
-{
-    clients::client_in(&[
-        byte(t, i, 1),
-        byte(t, i, 2),
-        byte(t, i, 3),
-        byte(t, i, 4),
-        byte(t, i, 5),
-        byte(t, i, 6),
-        byte(t, i, 7),
-        byte(t, i, 8),
-    ])
-}
-
-// Whether the client of the record at a place is ASnd with zeros: its eight bytes are 0.
-fn nobody_at(t: &[u8; 320], i: usize) -> bool
-    requires { i < 8 }
-    ensures { result ≡ same_client (at i t.now).client (Asnd 0 0) }
-{
-    u64_of(t, i, 1) == 0
-}
-
-// Whether the record at a place is unused and fresh, but for its area number.
-fn fresh_at(t: &[u8; 320], i: usize) -> bool
-    requires { i < 8 }
-    ensures { result ≡ is_fresh (at i t.now) }
-{
-    !used_at(t, i)
-        & nobody_at(t, i)
-        & (byte(t, i, 10) == 0)
-        & (byte(t, i, 11) == 63)
-        & (byte(t, i, 12) == 0)
-}
-
-// Whether the client of the record at a place stands before that of the next.
-fn ascends_at(t: &[u8; 320], i: usize) -> bool
-    requires { i < 7 }
-    ensures { result ≡ before (at i t.now).client (at (i + 1) t.now).client }
-{
-    let a = client_at(t, i);
-    let b = client_at(t, i + 1);
-    connection::is_before(a, b)
-}
-
-// Whether the next record may stand behind the one at a place.
-fn follows_at(t: &[u8; 320], i: usize) -> bool
-    requires { i < 7 }
-    ensures { result ≡ follows (at i t.now) (at (i + 1) t.now) }
-{
-    let next = used_at(t, i + 1);
-    if used_at(t, i) {
-        if next {
-            return ascends_at(t, i);
-        }
-        return true;
+    match a {
+        SdoClientInfo::Asnd { node, mac } => match b {
+            SdoClientInfo::Asnd { node: n, mac: m } => (node < n) | ((node == n) & (mac < m)),
+            SdoClientInfo::Udp { ip: _, port: _ } => true,
+        },
+        SdoClientInfo::Udp { ip, port } => match b {
+            SdoClientInfo::Asnd { node: _, mac: _ } => false,
+            SdoClientInfo::Udp { ip: i, port: p } => (ip < i) | ((ip == i) & (port < p)),
+        },
     }
-    fresh_at(t, i) & !next
+}
+
+// Whether a record may stand next behind another.
+#[tactic(auto, unfolding(picks::specs::Pick::pick, format::specs::Format::record_of))]
+fn follows(x: &[u8; 40], y: &[u8; 40]) -> bool
+    ensures { result ≡ follows (record_of x.now) (record_of y.now) }
+{
+    if is_used(x) {
+        !is_used(y) || is_before(record::client_of(x), record::client_of(y))
+    } else {
+        is_fresh(x) & !is_used(y)
+    }
 }
 
 // Used records come first, clients strictly ascending, and unused ones are fresh.
 fn is_ordered(t: &[u8; 320]) -> bool
     ensures { result ≡ ordered (table_of t.now) }
 {
-    let mut i = 0;
-    while i < 7 {
-        if follows_at(t, i) {
-            i += 1;
-        } else {
-            return false;
-        }
-    }
-    used_at(t, 7) | fresh_at(t, 7)
+    let rows = record::rows(t);
+    let last = &rows[7];
+    rows.is_sorted_by(|x, y| follows(x, y)) & (is_used(last) | is_fresh(last))
 }
 
 // Area numbers 0 to 7, each once.
 fn areas_once(t: &[u8; 320]) -> bool
     ensures { result ≡ areas_once (table_of t.now) }
 {
+    let rows = record::rows(t);
     let mut seen = [false; 8];
-    let mut i = 0;
-    while i < 8 {
-        let n = byte(t, i, 9) as usize;
-        if n < 8 {
-            if seen[n] {
-                return false;
-            }
-            seen[n] = true;
-        } else {
+    for r in rows {
+        let area = r[9] as usize;
+        if 8 <= area || seen[area] {
             return false;
         }
-        i += 1;
+        seen[area] = true;
     }
     true
 }
 
-// When the transfer of the record at a place is due.
-fn due_time(t: &[u8; 320], i: usize) -> Deadline
-    requires { i < 8 }
-    ensures { result ≡ due_time (bytes_of i t.now) }
+// Whether a record's transfer, if it has one, is sound.
+fn sound_state(r: &[u8; 40]) -> bool
+    ensures { result ≡ sound_state (record_of r.now).state }
 {
-    if byte(t, i, 25) == 1 {
-        return Deadline::At(u64_of(t, i, 26));
+    if r[12] < 3 {
+        true
+    } else if r[12] == 3 {
+        transfers::sound_upload(record::transfer_of(r))
+    } else {
+        transfers::sound_download(record::transfer_of(r))
     }
-    Deadline::NoDeadline
-}
-
-// The transfer of the record at a place.
-fn transfer_at(t: &[u8; 320], i: usize) -> SdoTransferState
-    requires { i < 8 }
-    ensures { result ≡ transfer_of (bytes_of i t.now) }
-{
-    SdoTransferState {
-        transaction: byte(t, i, 13),
-        total: u32_of(t, i, 14),
-        offset: u32_of(t, i, 18),
-        index: u16_of(t, i, 22),
-        sub: byte(t, i, 24),
-        deadline: due_time(t, i),
-        retries: u32_of(t, i, 34),
-        stored: byte(t, i, 38) == 1,
-    }
-}
-
-// Whether the transfer of the record at a place, if it has one, is sound.
-fn state_sound(t: &[u8; 320], i: usize) -> bool
-    requires { i < 8 }
-    ensures { result ≡ sound_state (at i t.now).state }
-{
-    let state = byte(t, i, 12);
-    if state < 3 {
-        return true;
-    }
-    let transfer = transfer_at(t, i);
-    if state == 3 {
-        return transfers::sound_upload(transfer);
-    }
-    transfers::sound_download(transfer)
 }
 
 // Sequence numbers at most 63, and a sound transfer.
-fn sound_at(t: &[u8; 320], i: usize) -> bool
-    requires { i < 8 }
-    ensures { result ≡ sound_record (at i t.now) }
+fn is_sound_record(r: &[u8; 40]) -> bool
+    ensures { result ≡ sound_record (record_of r.now) }
 {
-    (byte(t, i, 10) <= 63) & (byte(t, i, 11) <= 63) & state_sound(t, i)
+    (r[10] <= 63) & (r[11] <= 63) & sound_state(r)
 }
 
 // Whether every record of an ordered table is sound: the unused ones are fresh, which is sound.
@@ -207,180 +111,115 @@ fn records_sound(t: &[u8; 320]) -> bool
     requires { ordered (table_of t.now) ≡ true }
     ensures { result ≡ every sound_record (table_of t.now) }
 {
-    let mut i = 0;
-    while i < 8 {
-        if used_at(t, i) {
-            if sound_at(t, i) {
-                i += 1;
-            } else {
-                return false;
-            }
-        } else {
-            return true;
-        }
-    }
-    true
+    let rows = record::rows(t);
+    rows.iter()
+        .take_while(|r| is_used(r))
+        .all(|r| is_sound_record(r))
 }
 
 // Whether the bytes are those of a table, and the table is sound.
+#[tactic(auto, unfolding(protocol::specs::ConnectionTable::sound_table))]
 pub fn is_sound(t: &[u8; 320]) -> bool
     ensures { result ≡ (is_table t.now && sound_table (table_of t.now)) }
 {
-    if record::is_table(t) {
-        if is_ordered(t) {
-            if areas_once(t) {
-                return records_sound(t);
-            }
-        }
-    }
-    false
+    record::is_table(t) && is_ordered(t) && areas_once(t) && records_sound(t)
 }
 
-// Whether the record at a place is a used one of the client's.
-fn held_at(t: &[u8; 320], i: usize, client: SdoClientInfo) -> bool
-    requires { i < 8 }
-    ensures { result ≡ holds client (at i t.now) }
+// Whether a record is a used one of the client's.
+#[tactic(auto, unfolding(picks::specs::Pick::pick, format::specs::Format::record_of))]
+fn is_held(r: &[u8; 40], client: SdoClientInfo) -> bool
+    ensures { result ≡ holds client (record_of r.now) }
 {
-    if used_at(t, i) {
-        return connection::same_client(client_at(t, i), client);
-    }
-    false
+    is_used(r) && record::client_of(r) == client
 }
 
-// The place of the client's record, or 8.
-pub fn place_of(t: &[u8; 320], client: SdoClientInfo) -> usize
-    ensures { result ≡ place_of client (table_of t.now) }
+// The place of the client's record.
+pub fn place_of(t: &[u8; 320], client: SdoClientInfo) -> Option<usize>
+    ensures place { place_in result ≡ place_of client (table_of t.now) }
+    ensures inside { IfSome result (λ i. i < 8) }
 {
-    let mut i = 0;
-    while i < 8 {
-        if held_at(t, i, client) {
-            return i;
-        }
-        i += 1;
-    }
-    i
+    record::rows(t).iter().position(|r| is_held(r, client))
 }
 
-// The place of the first unused record, or 8.
-pub fn unused_place(t: &[u8; 320]) -> usize
-    ensures { result ≡ unused_place (table_of t.now) }
+// The place of the first unused record.
+pub fn unused_place(t: &[u8; 320]) -> Option<usize>
+    ensures place { place_in result ≡ unused_place (table_of t.now) }
+    ensures inside { IfSome result (λ i. i < 8) }
 {
-    let mut i = 0;
-    while i < 8 {
-        if used_at(t, i) {
-            i += 1;
-        } else {
-            return i;
-        }
-    }
-    i
+    record::rows(t).iter().position(|r| !is_used(r))
 }
 
-// Whether a client's record belongs before the one at a place.
-fn behind_at(t: &[u8; 320], i: usize, client: SdoClientInfo) -> bool
-    requires { i < 8 }
-    ensures { result ≡ is_behind client (at i t.now) }
+// Whether a client's record belongs before this one.
+#[tactic(auto, unfolding(picks::specs::Pick::pick, format::specs::Format::record_of))]
+fn is_behind(r: &[u8; 40], client: SdoClientInfo) -> bool
+    ensures { result ≡ is_behind client (record_of r.now) }
 {
-    if used_at(t, i) {
-        return !connection::is_before(client_at(t, i), client);
-    }
-    true
+    !is_used(r) || !(record::client_of(r) < client)
 }
 
-// Where a client's record belongs, or 8.
-pub fn seat_place(t: &[u8; 320], client: SdoClientInfo) -> usize
-    ensures { result ≡ seat_place client (table_of t.now) }
+// Where a client's record belongs.
+pub fn seat_place(t: &[u8; 320], client: SdoClientInfo) -> Option<usize>
+    ensures place { place_in result ≡ seat_place client (table_of t.now) }
+    ensures inside { IfSome result (λ i. i < 8) }
 {
-    let mut i = 0;
-    while i < 8 {
-        if behind_at(t, i, client) {
-            return i;
-        }
-        i += 1;
-    }
-    i
+    record::rows(t).iter().position(|r| is_behind(r, client))
 }
 
-// When the transfer of the record at a place is due, if it has one.
-fn transfer_time(t: &[u8; 320], i: usize) -> Deadline
-    requires { i < 8 }
-    ensures { result ≡ transfer_deadline (at i t.now).state }
+// When a record is due, an unused one never.
+fn deadline_of(r: &[u8; 40]) -> Option<u64>
+    ensures { result ≡ deadline_of (record_of r.now) }
 {
-    if byte(t, i, 12) < 3 {
-        return Deadline::NoDeadline;
+    if !is_used(r) | (r[12] < 3) {
+        None
+    } else {
+        record::deadline_of(r)
     }
-    due_time(t, i)
-}
-
-// When the record at a place is due, an unused one never.
-fn deadline_at(t: &[u8; 320], i: usize) -> Deadline
-    requires { i < 8 }
-    ensures { result ≡ deadline_of (at i t.now) }
-{
-    if used_at(t, i) {
-        return transfer_time(t, i);
-    }
-    Deadline::NoDeadline
 }
 
 // The earliest deadline.
-pub fn next_deadline(t: &[u8; 320]) -> Deadline
+pub fn next_deadline(t: &[u8; 320]) -> Option<u64>
     ensures { result ≡ earliest (table_of t.now) }
 {
-    let mut d = Deadline::NoDeadline;
-    let mut i = 0;
-    while i < 8 {
-        if used_at(t, i) {
-            d = transfers::earlier(d, transfer_time(t, i));
-        }
-        i += 1;
-    }
-    d
+    record::rows(t)
+        .iter()
+        .fold(None, |d, r| transfers::earlier(d, deadline_of(r)))
 }
 
-// Whether a tick finds nothing to do at a place: the record is not due, and is not a closed one that is used.
-fn quiet_at(t: &[u8; 320], i: usize, clock: u64) -> bool
-    requires { i < 8 }
-    ensures { result ≡ is_quiet clock (at i t.now) }
+// Whether a tick finds nothing to do for a record: it is not due, and is not a closed one that is used.
+fn is_quiet_record(r: &[u8; 40], clock: u64) -> bool
+    ensures { result ≡ is_quiet clock (record_of r.now) }
 {
-    let due = transfers::is_past(deadline_at(t, i), clock);
-    let gone = used_at(t, i) & (byte(t, i, 12) == 0);
-    !due & !gone
+    if is_used(r) {
+        let gone = r[12] == 0;
+        !transfers::is_past(deadline_of(r), clock) & !gone
+    } else {
+        true
+    }
 }
 
 // Whether a tick finds nothing to do.
 pub fn is_quiet(t: &[u8; 320], clock: u64) -> bool
     ensures { result ≡ every (is_quiet clock) (table_of t.now) }
 {
-    let mut i = 0;
-    while i < 8 {
-        if quiet_at(t, i, clock) {
-            i += 1;
-        } else {
-            return false;
-        }
-    }
-    true
+    record::rows(t).iter().all(|r| is_quiet_record(r, clock))
 }
 
 // The area number of the record at a place; 0 past the end.
 pub fn area_at(t: &[u8; 320], i: usize) -> u8
     ensures { result ≡ (get_or (table_of t.now) i (fresh 0)).area }
 {
-    if i < 8 {
-        return byte(t, i, 9);
+    match record::rows(t).get(i) {
+        Some(r) => r[9],
+        None => 0,
     }
-    0
 }
 
 // The record at a place; past the end a fresh one.
 pub fn record_at(t: &[u8; 320], i: usize) -> Connection
     ensures { result ≡ get_or (table_of t.now) i (fresh 0) }
 {
-    if i < 8 {
-        let mut b = [0; 40];
-        octets::copy_at(&mut b, 0, octets::part(t, 40 * i, 40));
-        return record::record_of(&b);
+    match record::rows(t).get(i) {
+        Some(r) => record::record_of(r),
+        None => connection::fresh(0),
     }
-    connection::fresh(0)
 }

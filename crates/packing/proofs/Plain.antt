@@ -1,24 +1,24 @@
 -- Plain bytes are those that are written of what they say: law by law for the parts of a record, then for a record and a table.
 use Prim.Native.Nat.{ℕ, zero, suc, ◌+◌, ◌*◌, ◌/◌, ◌%◌, ◌<◌, ◌≤◌}
 use native.Mathlib.Omega.{arith}
-use native.Mathlib.Nat.{add-zero}
 use mathlib.Core.Path.{◌≡◌, refl, sym, ap, ◌∙◌}
-use mathlib.Core.Bool.{true, ◌&&◌, ◌||◌}
+use mathlib.Core.Bool.{Bool, true, false, ◌||◌}
 use mathlib.Core.List.{List, [], ◌∷◌, ◌++◌, append_assoc, map}
-use lib.ListN.{length, take, drop, length-drop}
-use lib.Dec.{ltb, eqb}
+use lib.ListN.{length, get_or, take, drop, length-drop}
+use lib.Dec.{eqb}
 use lib.Seq.{take-suc, take-add, take_all, take-take, drop-drop, drop-cons, length-take-le, get_or-drop}
-use borrow.Author.Tests.{eqb-true, ltb-true, ltb-false}
+use borrow.Author.Tests.{eqb-true}
 use Rattle.picks.specs.Pick.{pick}
-use Rattle.picks.proofs.Keep.{by_test, of_both}
+use Rattle.picks.proofs.Keep.{by_test, not_both}
 use Rattle.octets.specs.Octets.{le_bytes, AllBytes}
 use Rattle.octets.proofs.Bytes.{bytes_drop, bytes_take}
 use Rattle.octets.proofs.Little.{le_bytes_le}
-use Rattle.protocol.specs.declared.Deadline.TheVariants.{NoDeadline, At}
+use Rattle.std.specs.Prelude.{None, Some}
+use Rattle.std.specs.Bool.{MatchBool}
+use Rattle.std.specs.List.{AllWithin}
 use Rattle.format.specs.Format.{byte_at, number_at, flag, big, big_bytes, client_bytes, client_of, deadline_flag, deadline_time, transfer_bytes, transfer_of, state_number, state_bytes, state_of, record_bytes, record_of, rows, table_bytes, table_of}
-use Rattle.format.proofs.Reading.{state_is, byte_in}
-use Rattle.format.proofs.Places.{number_in}
-use Rattle.packing.specs.Plain.{row_at, RowIn, SameClient, NoTransfer, SameTransfer, SameState, SameRecord}
+use Rattle.format.proofs.Reading.{state_is}
+use Rattle.packing.specs.Plain.{SameClient, NoTransfer, SameTransfer, SameState, SameRecord}
 
 -- a part of a list by its first byte, and by its first n
 part_byte : (m k : ℕ) (r : List ℕ) → k < length r → take (suc m) (drop k r) ≡ byte_at k r ∷ take m (drop (suc k) r)
@@ -68,11 +68,11 @@ module _ (u : List ℕ) (b : AllBytes u) (h : 8 ≤ length u) where
       (ap (λ (x : List ℕ). 1 ∷ x) (append_assoc (take 4 (drop 1 u)) (take 2 (drop 5 u)) (0 ∷ [])))
 
 -- a deadline by its flag
-deadline_told : (x n : ℕ) → deadline_flag (pick (eqb x 1) (At n) NoDeadline) ≡ flag (eqb x 1)
+deadline_told : (x n : ℕ) → deadline_flag (pick (eqb x 1) (Some n) None) ≡ flag (eqb x 1)
 unfolding pick
 deadline_told x n = by_test (eqb x 1) (λ e. rw e) (λ e. rw e)
 
-time_told : (x n : ℕ) → (eqb x 1 || eqb n 0) ≡ true → deadline_time (pick (eqb x 1) (At n) NoDeadline) ≡ n
+time_told : (x n : ℕ) → (eqb x 1 || eqb n 0) ≡ true → deadline_time (pick (eqb x 1) (Some n) None) ≡ n
 unfolding pick
 time_told x n t = by_test (eqb x 1) (λ e. rw e) (λ e. rw e (sym (eqb-true n 0 (rw e at t))))
 
@@ -81,14 +81,14 @@ module _ (r : List ℕ) (b : AllBytes r) (l : length r ≡ 40) where
   client_long : 8 ≤ length (drop 1 r)
   client_long = simp length-drop (omega arith)
 
-  same_asnd : byte_at 1 r ≡ 0 → SameClient r
+  pub same_asnd : byte_at 1 r ≡ 0 → SameClient r
   same_asnd e = asnd_same (drop 1 r) (bytes_drop 1 r b) client_long (rw (get_or-drop 1 r 0 0) e)
 
-  same_udp : byte_at 1 r ≡ 1 → byte_at 8 r ≡ 0 → SameClient r
+  pub same_udp : byte_at 1 r ≡ 1 → byte_at 8 r ≡ 0 → SameClient r
   same_udp e z = udp_same (drop 1 r) (bytes_drop 1 r b) client_long (rw (get_or-drop 1 r 0 0) e) (rw (get_or-drop 1 r 7 0) z)
 
   -- the third number and the fourth have five bytes in common
-  no_transfer : number_at 8 13 r ≡ 0 → number_at 8 21 r ≡ 0 → number_at 8 29 r ≡ 0 → number_at 8 32 r ≡ 0 → NoTransfer r
+  pub no_transfer : number_at 8 13 r ≡ 0 → number_at 8 21 r ≡ 0 → number_at 8 29 r ≡ 0 → number_at 8 32 r ≡ 0 → NoTransfer r
   unfolding le_bytes
   no_transfer e f g h =
       let z : take 3 (drop 29 r) ≡ le_bytes 3 0 = sym (take-take 3 8 (drop 29 r) (omega arith)) ∙ ap (take 3) (zeros_same 8 29 r b (omega arith) g) in
@@ -119,7 +119,7 @@ module _ (r : List ℕ) (b : AllBytes r) (l : length r ≡ 40) where
       )
       (simp append_assoc)
 
-  same_transfer : byte_at 39 r ≡ 0 → byte_at 38 r ≤ 1 → byte_at 25 r ≤ 1 → (eqb (byte_at 25 r) 1 || eqb (number_at 8 26 r) 0) ≡ true → SameTransfer r
+  pub same_transfer : byte_at 39 r ≡ 0 → byte_at 38 r ≤ 1 → byte_at 25 r ≤ 1 → (eqb (byte_at 25 r) 1 || eqb (number_at 8 26 r) 0) ≡ true → SameTransfer r
   same_transfer z f g t =
       let y : take 1 (drop 39 r) ≡ 0 ∷ [] = part_byte 0 39 r (omega arith) ∙ ap (λ (x : ℕ). x ∷ []) z in
       rw (transfer_written f g t, ← y) (sym (part_more 26 1 13 r))
@@ -141,13 +141,13 @@ module _ (r : List ℕ) (b : AllBytes r) (l : length r ≡ 40) where
   state_busy (suc (suc (suc (suc zero)))) e h g z = rw (state_is r 4 e) (ap (λ (x : List ℕ). 4 ∷ x) z)
   state_busy (suc (suc (suc (suc (suc n))))) e h g z = absurd (omega arith)
 
-  same_state_blank : byte_at 12 r < 3 → NoTransfer r → SameState r
+  pub same_state_blank : byte_at 12 r < 3 → NoTransfer r → SameState r
   same_state_blank h z = rw (part_byte 27 12 r (omega arith)) (state_blank (byte_at 12 r) refl h z)
 
-  same_state_busy : 3 ≤ byte_at 12 r → byte_at 12 r < 5 → SameTransfer r → SameState r
+  pub same_state_busy : 3 ≤ byte_at 12 r → byte_at 12 r < 5 → SameTransfer r → SameState r
   same_state_busy h g z = rw (part_byte 27 12 r (omega arith)) (state_busy (byte_at 12 r) refl h g z)
 
-  same_record : byte_at 0 r ≤ 1 → SameClient r → SameState r → SameRecord r
+  pub same_record : byte_at 0 r ≤ 1 → SameClient r → SameState r → SameRecord r
   unfolding record_bytes record_of
   same_record h k s =
       let w : take 40 (drop 0 r) ≡ r = take_all 40 r (omega arith) in
@@ -157,68 +157,20 @@ module _ (r : List ℕ) (b : AllBytes r) (l : length r ≡ 40) where
       )
       )
 
--- the same of the record at a place, by the bytes of the table
-module _ (at : ℕ) (s : List ℕ) (h : RowIn at s) where
-  abbrev row : List ℕ
-  row = row_at at s
-
-  row_bytes : AllBytes row
-  row_bytes = bytes_take 40 (drop at s) (bytes_drop at s h.2)
-
-  row_long : length row ≡ 40
-  row_long = let g = h.0 in let l = h.1 in length-take-le 40 (drop at s) (simp length-drop (omega arith))
-
-  pub asnd_at : byte_at (at + 1) s ≡ 0 → SameClient row
-  asnd_at e = same_asnd row row_bytes row_long (byte_in at 1 s (omega arith) ∙ e)
-
-  pub udp_at : (eqb (byte_at (at + 1) s) 1 && eqb (byte_at (at + 8) s) 0) ≡ true → SameClient row
-  udp_at t =
-      let p = of_both (eqb (byte_at (at + 1) s) 1) (eqb (byte_at (at + 8) s) 0) t in
-      same_udp row row_bytes row_long (byte_in at 1 s (omega arith) ∙ eqb-true (byte_at (at + 1) s) 1 p.0) (byte_in at 8 s (omega arith) ∙ eqb-true (byte_at (at + 8) s) 0 p.1)
-
-  pub no_transfer_at : number_at 8 (at + 13) s ≡ 0 → number_at 8 (at + 21) s ≡ 0 → number_at 8 (at + 29) s ≡ 0 → eqb (number_at 8 (at + 32) s) 0 ≡ true → NoTransfer row
-  no_transfer_at e f g t =
-      no_transfer row row_bytes row_long (number_in 8 13 at s (omega arith) ∙ e) (number_in 8 21 at s (omega arith) ∙ f) (number_in 8 29 at s (omega arith) ∙ g) (number_in 8 32 at s (omega arith) ∙ eqb-true (number_at 8 (at + 32) s) 0 t)
-
-  transfer_at : byte_at (at + 39) s ≡ 0 → byte_at (at + 38) s ≤ 1 → byte_at (at + 25) s ≤ 1 → (eqb (byte_at (at + 25) s) 1 || eqb (number_at 8 (at + 26) s) 0) ≡ true → SameTransfer row
-  transfer_at z f g t =
-      same_transfer row row_bytes row_long (byte_in at 39 s (omega arith) ∙ z) (rw (byte_in at 38 s (omega arith)) f) (rw (byte_in at 25 s (omega arith)) g) (rw (byte_in at 25 s (omega arith), number_in 8 26 at s (omega arith)) t)
-
-  pub timed_at : byte_at (at + 39) s ≡ 0 → byte_at (at + 38) s ≤ 1 → byte_at (at + 25) s ≡ 1 → SameTransfer row
-  timed_at z f e = transfer_at z f (omega arith) (rw e)
-
-  pub untimed_at : byte_at (at + 39) s ≡ 0 → byte_at (at + 38) s ≤ 1 → (eqb (byte_at (at + 25) s) 0 && eqb (number_at 8 (at + 26) s) 0) ≡ true → SameTransfer row
-  untimed_at z f t =
-      let p = of_both (eqb (byte_at (at + 25) s) 0) (eqb (number_at 8 (at + 26) s) 0) t in
-      let e = eqb-true (byte_at (at + 25) s) 0 p.0 in
-      transfer_at z f (omega arith) (rw e p.1)
-
-  pub state_blank_at : byte_at (at + 12) s < 3 → NoTransfer row → SameState row
-  state_blank_at g z = same_state_blank row row_bytes row_long (rw (byte_in at 12 s (omega arith)) g) z
-
-  pub state_busy_at : 3 ≤ byte_at (at + 12) s → byte_at (at + 12) s < 5 → SameTransfer row → SameState row
-  state_busy_at g i z = same_state_busy row row_bytes row_long (rw (byte_in at 12 s (omega arith)) g) (rw (byte_in at 12 s (omega arith)) i) z
-
-  pub record_plain : byte_at at s ≤ 1 → SameClient row → SameState row → SameRecord row
-  record_plain u k z = same_record row row_bytes row_long (rw (byte_in at 0 s (omega arith), add-zero at) u) k z
-
 -- a table whose records are such
-rows_same : (n at : ℕ) (s : List ℕ) → ((j : ℕ) → j < n → SameRecord (row_at (at + 40 * j) s)) → table_bytes (map record_of (rows n at s)) ≡ take (40 * n) (drop at s)
+rows_same : (n at : ℕ) (s : List ℕ) → ((j : ℕ) (d : List ℕ) → j < n → SameRecord (get_or (rows n at s) j d)) → table_bytes (map record_of (rows n at s)) ≡ take (40 * n) (drop at s)
 unfolding rows table_bytes
 rows_same zero at s h = refl
 rows_same (suc n) at s h =
-    let z : at + 40 * 0 ≡ at = omega arith in
-    let f : record_bytes (record_of (take 40 (drop at s))) ≡ take 40 (drop at s) = rw z at (h 0 (omega arith)) in
-    let g : (j : ℕ) → j < n → SameRecord (row_at (at + 40 + 40 * j) s) = λ j i. let e : at + 40 + 40 * j ≡ at + 40 * suc j = omega arith in rw e (h (suc j) (omega arith)) in
+    let f : record_bytes (record_of (take 40 (drop at s))) ≡ take 40 (drop at s) = h 0 [] (omega arith) in
     let e : 40 * suc n ≡ 40 + 40 * n = omega arith in
-    rw (f, rows_same n (at + 40) s g, e) (sym (part_more 40 (40 * n) at s))
+    rw (f, rows_same n (at + 40) s (λ j d i. h (suc j) d (omega arith)), e) (sym (part_more 40 (40 * n) at s))
 
-pub same_more : (i : ℕ) (s : List ℕ) → ((j : ℕ) → j < i → SameRecord (row_at (40 * j) s)) → SameRecord (row_at (40 * i) s) → (j : ℕ) → j < i + 1 → SameRecord (row_at (40 * j) s)
-same_more i s h p j l =
-    by_test (ltb j i) (λ t. h j (ltb-true j i t)) (λ t. let g = ltb-false j i t in let e : j ≡ i = omega arith in rw e p)
+pub same_table : (s : List ℕ) → length s ≡ 320 → AllWithin SameRecord (rows 8 0 s) 0 (length (rows 8 0 s)) → table_bytes (table_of s) ≡ s
+unfolding table_of rows
+same_table s l h = rows_same 8 0 s (λ j d i. h j d (omega arith) i) ∙ take_all 320 s (omega arith)
 
-pub same_table : (s : List ℕ) → length s ≡ 320 → ((j : ℕ) → j < 8 → SameRecord (row_at (40 * j) s)) → table_bytes (table_of s) ≡ s
-unfolding table_of
-same_table s l h =
-    let g : (j : ℕ) → j < 8 → SameRecord (row_at (0 + 40 * j) s) = λ j i. let e : 0 + 40 * j ≡ 40 * j = omega arith in rw e (h j i) in
-    rows_same 8 0 s g ∙ take_all 320 s (omega arith)
+-- what a test that passed says
+pub true_case : {P : Type 0} (Q : Type 0) (b : Bool) → MatchBool b P Q → b ≡ true → P
+true_case Q true h e = h
+true_case Q false h e = not_both e refl

@@ -6,7 +6,7 @@ use mathlib.Core.List.{List, [], ◌∷◌, ◌++◌, append_assoc}
 use lib.ListN.{length, get_or, take, drop, set, length-drop, take-append-drop}
 use lib.Seq.{paste, take_at, drop_at, length-take-le, set_split, length-paste}
 use Rattle.octets.specs.Octets.{splice}
-use Rattle.octets.proofs.Splice.{splice_fits, part_splice}
+use Rattle.octets.proofs.Splice.{splice_fits}
 use Rattle.picks.proofs.Shift.{shift_down}
 use Rattle.protocol.specs.declared.Connection.{Connection}
 use Rattle.protocol.specs.ConnectionTable.{fresh}
@@ -18,13 +18,6 @@ use Rattle.format.proofs.Reading.{byte_in}
 use Rattle.format.proofs.Writing.{length_record, length_table}
 use Rattle.format.proofs.Ranges.{length_table_of}
 use Rattle.format.proofs.Places.{record_at}
-
--- a part that is laid at the start of other bytes and read there again
-pub moved : (from len : ℕ) (s z : List ℕ) → from + len ≤ length s → len ≤ length z → take len (drop 0 (splice 0 (take len (drop from s)) z)) ≡ take len (drop from s)
-moved from len s z h g =
-    let p = take len (drop from s) in
-    let l : length p ≡ len = length-take-le len (drop from s) (simp length-drop (omega arith)) in
-    rw l at (part_splice 0 p z (omega arith))
 
 -- the bytes of records one behind the other
 table_append : (a b : List Connection) → table_bytes (a ++ b) ≡ table_bytes a ++ table_bytes b

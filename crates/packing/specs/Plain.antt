@@ -1,15 +1,6 @@
 -- Bytes of a record that are those written of what they say, part by part.
-use Rattle.std.specs.Prelude.{ℕ, ◌+◌, ◌≤◌, ◌≡◌, List, [], ◌∷◌, ◌++◌, length, take, drop, replicate}
-use Rattle.octets.specs.Octets.{AllBytes}
+use Rattle.std.specs.Prelude.{ℕ, ◌≡◌, List, [], ◌∷◌, ◌++◌, take, drop, replicate}
 use Rattle.format.specs.Format.{client_bytes, client_of, transfer_bytes, transfer_of, state_number, state_bytes, state_of, record_bytes, record_of}
-
--- the record's bytes at a place of the table's
-abbrev pub row_at : ℕ → List ℕ → List ℕ
-row_at at s = take 40 (drop at s)
-
--- a table's bytes, and a place with a record's behind it
-abbrev pub RowIn : ℕ → List ℕ → Type 0
-RowIn at s = (at + 40 ≤ 320) × (length s ≡ 320) × AllBytes s
 
 abbrev pub SameClient : List ℕ → Type 0
 SameClient s = client_bytes (client_of (drop 1 s)) ≡ take 8 (drop 1 s)

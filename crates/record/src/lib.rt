@@ -1,37 +1,38 @@
 // Records and tables as bytes: oracle/REPLAY.md has the format. A byte past the end reads as 0.
 #![tactic(auto)]
 
-ghost use Rattle.std.specs.Prelude.{◌≡◌, ◌+◌, ◌*◌, ◌<◌, ◌≤◌, length, take, drop, eqb};
+ghost use Rattle.std.specs.Prelude.{◌≡◌, ◌+◌, ◌*◌, ◌<◌, ◌≤◌, length, drop, eqb};
 ghost use Rattle.picks.specs.Pick.{pick};
 ghost use Rattle.octets.specs.Octets.{splice};
 ghost use Rattle.protocol.specs.ConnectionTable.{empty_table};
-ghost use Rattle.format.specs.Format.{state_number, deadline_flag, deadline_time, transfer_bytes, state_bytes, record_bytes, deadline_of, transfer_of, state_of, record_of, is_record, table_bytes, table_of, is_table};
+ghost use Rattle.format.specs.Format.{state_number, rows, client_of, transfer_bytes, state_bytes, record_bytes, deadline_of, transfer_of, state_of, record_of, is_record, table_bytes, table_of, is_table};
 
-use protocol::{Connection, Deadline, SdoServerState, SdoTransferState};
+use protocol::{Connection, SdoClientInfo, SdoServerState, SdoTransferState};
 
 // The deadline of a record's bytes.
-fn deadline_of(s: &[u8; 40]) -> Deadline
+pub fn deadline_of(s: &[u8; 40]) -> Option<u64>
     ensures { result ≡ deadline_of s.now }
 {
-    if octets::byte_at(s, 25) == 1 {
-        return Deadline::At(octets::u64_at(s, 26));
+    if s[25] == 1 {
+        Some(octets::number_at::<u64, _>(s, 26))
+    } else {
+        None
     }
-    Deadline::NoDeadline
 }
 
 // The transfer of a record's bytes.
-fn transfer_of(s: &[u8; 40]) -> SdoTransferState
+pub fn transfer_of(s: &[u8; 40]) -> SdoTransferState
     ensures { result ≡ transfer_of s.now }
 {
     SdoTransferState {
-        transaction: octets::byte_at(s, 13),
-        total: octets::u32_at(s, 14),
-        offset: octets::u32_at(s, 18),
-        index: octets::u16_at(s, 22),
-        sub: octets::byte_at(s, 24),
+        transaction: s[13],
+        total: octets::number_at(s, 14),
+        offset: octets::number_at(s, 18),
+        index: octets::number_at(s, 22),
+        sub: s[24],
         deadline: deadline_of(s),
-        retries: octets::u32_at(s, 34),
-        stored: octets::byte_at(s, 38) == 1,
+        retries: octets::number_at(s, 34),
+        stored: s[38] == 1,
     }
 }
 
@@ -39,8 +40,7 @@ fn transfer_of(s: &[u8; 40]) -> SdoTransferState
 fn state_of(s: &[u8; 40]) -> SdoServerState
     ensures { result ≡ state_of s.now }
 {
-    let state = octets::byte_at(s, 12);
-    match state {
+    match s[12] {
         0 => SdoServerState::Closed,
         1 => SdoServerState::Opening,
         2 => SdoServerState::Established,
@@ -49,85 +49,66 @@ fn state_of(s: &[u8; 40]) -> SdoServerState
     }
 }
 
+// The client of a record's bytes.
+pub fn client_of(s: &[u8; 40]) -> SdoClientInfo
+    ensures { result ≡ client_of (drop 1 s.now) }
+{
+    clients::client_in(&[s[1], s[2], s[3], s[4], s[5], s[6], s[7], s[8]])
+}
+
 // The record in its bytes.
 pub fn record_of(s: &[u8; 40]) -> Connection
     ensures { result ≡ record_of s.now }
 {
     Connection {
-        used: octets::byte_at(s, 0) == 1,
-        client: clients::client_in(&[s[1], s[2], s[3], s[4], s[5], s[6], s[7], s[8]]),
-        area: octets::byte_at(s, 9),
-        send: octets::byte_at(s, 10),
-        receive: octets::byte_at(s, 11),
+        used: s[0] == 1,
+        client: client_of(s),
+        area: s[9],
+        send: s[10],
+        receive: s[11],
         state: state_of(s),
     }
 }
 
-// The record that begins at a place of a table's bytes.
-fn record_in(s: &[u8], at: usize) -> Connection
-    requires { at + 40 ≤ length s.now }
-    ensures { result ≡ record_of (take 40 (drop at s.now)) }
+// The eight records' bytes in a table's.
+pub fn rows(t: &[u8; 320]) -> &[[u8; 40]]
+    ensures value { result.now ≡ rows 8 0 t.now }
+    ensures len { length result.now ≡ 8 }
 {
-    let end = at + 40;
-    let mut b = [0; 40];
-    octets::copy_at(&mut b, 0, &s[at..end]);
-    record_of(&b)
-}
-
-// The table in its bytes.
-fn table_in(s: &[u8]) -> [Connection; 8]
-    requires { 320 ≤ length s.now }
-    ensures { result ≡ table_of s.now }
-{
-    [
-        record_in(s, 0),
-        record_in(s, 40),
-        record_in(s, 80),
-        record_in(s, 120),
-        record_in(s, 160),
-        record_in(s, 200),
-        record_in(s, 240),
-        record_in(s, 280),
-    ]
+    let (rows, _) = t.as_chunks();
+    rows
 }
 
 // The table in these bytes.
 pub fn table_of(s: &[u8]) -> [Connection; 8]
     ensures { result ≡ table_of s.now }
 {
-    let mut b = [0; 320];
-    octets::copy_at(&mut b, 0, s);
-    table_in(&b)
+    let mut bytes = [0; 320];
+    octets::copy_at(&mut bytes, 0, s);
+    let rows = rows(&bytes);
+    std::array::from_fn(|i| record_of(&rows[i]))
 }
 
-// Whether the kind, flags and state of the record at a place are in their limits. Without a transfer its bytes are not looked at.
-fn is_record(s: &[u8], at: usize) -> bool
-    requires { at + 40 ≤ length s.now }
-    ensures { result ≡ is_record (take 40 (drop at s.now)) }
+// Whether a record's kind, flags and state are in their limits. Without a transfer its bytes are not looked at.
+fn is_record(s: &[u8; 40]) -> bool
+    ensures { result ≡ is_record s.now }
 {
-    let head = (s[at] < 2) & (s[at + 1] < 2);
-    let state = s[at + 12];
-    if state < 3 {
-        return head;
+    let head = (s[0] < 2) & (s[1] < 2);
+    if s[12] < 3 {
+        head
+    } else {
+        head & ((s[12] < 5) & ((s[25] < 2) & (s[38] < 2)))
     }
-    head & ((state < 5) & ((s[at + 25] < 2) & (s[at + 38] < 2)))
 }
 
 // Whether these bytes are those of eight records in their limits.
 pub fn is_table(s: &[u8]) -> bool
     ensures { result ≡ is_table s.now }
 {
-    if s.len() != 320 {
-        return false;
+    match s.as_array() {
+        Some(t) => rows(t).iter().all(|r| is_record(r)),
+        None => false,
     }
-    is_record(s, 0)
-        & is_record(s, 40)
-        & is_record(s, 80)
-        & is_record(s, 120)
-        & is_record(s, 160)
-        & is_record(s, 200)
-        & is_record(s, 240)
-        & is_record(s, 280)
 }
 
 // A state's number.
@@ -138,28 +119,8 @@ fn state_number(s: SdoServerState) -> u8
         SdoServerState::Closed => 0,
         SdoServerState::Opening => 1,
         SdoServerState::Established => 2,
-        SdoServerState::SegmentedUpload(t) => 3,
-        SdoServerState::SegmentedDownload(t) => 4,
-    }
-}
-
-// Whether a deadline is there.
-fn deadline_flag(d: Deadline) -> u8
-    ensures { result ≡ deadline_flag d }
-{
-    match d {
-        Deadline::NoDeadline => 0,
-        Deadline::At(time) => 1,
-    }
-}
-
-// The deadline, 0 without one.
-fn deadline_time(d: Deadline) -> u64
-    ensures { result ≡ deadline_time d }
-{
-    match d {
-        Deadline::NoDeadline => 0,
-        Deadline::At(time) => time,
+        SdoServerState::SegmentedUpload(_) => 3,
+        SdoServerState::SegmentedDownload(_) => 4,
     }
 }
 
@@ -170,12 +131,12 @@ fn transfer_bytes(t: SdoTransferState) -> [u8; 26]
     let deadline = t.deadline;
     let mut b = [0; 26];
     b[0] = t.transaction;
-    octets::store_u32(&mut b, 1, t.total);
-    octets::store_u32(&mut b, 5, t.offset);
-    octets::store_u16(&mut b, 9, t.index);
-    octets::copy_at(&mut b, 11, &[t.sub, deadline_flag(deadline)]);
-    octets::store_u64(&mut b, 13, deadline_time(deadline));
-    octets::store_u32(&mut b, 21, t.retries);
+    octets::store(&mut b, 1, t.total);
+    octets::store(&mut b, 5, t.offset);
+    octets::store(&mut b, 9, t.index);
+    octets::copy_at(&mut b, 11, &[t.sub, deadline.is_some() as u8]);
+    octets::store(&mut b, 13, deadline.unwrap_or(0));
+    octets::store(&mut b, 21, t.retries);
     b[25] = t.stored as u8;
     b
 }
@@ -185,11 +146,10 @@ fn state_bytes(s: SdoServerState) -> [u8; 26]
     ensures { result ≡ state_bytes s }
 {
     match s {
-        SdoServerState::Closed => [0; 26],
-        SdoServerState::Opening => [0; 26],
-        SdoServerState::Established => [0; 26],
-        SdoServerState::SegmentedUpload(t) => transfer_bytes(t),
-        SdoServerState::SegmentedDownload(t) => transfer_bytes(t),
+        SdoServerState::SegmentedUpload(t) | SdoServerState::SegmentedDownload(t) => {
+            transfer_bytes(t)
+        }
+        _ => [0; 26],
     }
 }
 
@@ -220,9 +180,8 @@ fn put_record(out: &mut [u8], at: usize, c: Connection)
 pub fn store_record(t: &mut [u8; 320], i: usize, c: Connection)
     ensures { t.new ≡ splice (40 * i) (record_bytes c) t.old }
 {
-    let out = &mut t[..];
     if i < 8 {
-        put_record(out, 40 * i, c);
+        put_record(t, 40 * i, c);
     }
 }
 
@@ -231,10 +190,8 @@ fn lay_table(out: &mut [u8], row: [Connection; 8])
     requires { length out.old ≡ 320 }
     ensures { out.new ≡ table_bytes row }
 {
-    let mut i = 0;
-    while i < 8 {
-        put_record(out, 40 * i, row[i]);
-        i += 1;
+    for (i, c) in row.iter().enumerate() {
+        put_record(out, 40 * i, *c);
     }
 }
 
@@ -242,33 +199,23 @@ fn lay_table(out: &mut [u8], row: [Connection; 8])
 pub fn table_bytes(row: [Connection; 8]) -> [u8; 320]
     ensures { result ≡ table_bytes row }
 {
-    let mut b = [0; 320];
-    lay_table(&mut b, row);
-    b
+    let mut bytes = [0; 320];
+    lay_table(&mut bytes, row);
+    bytes
 }
 
 // A table's bytes are stored where 320 are lent; any other length stays as it is.
 pub fn put_table(out: &mut [u8], row: [Connection; 8])
     ensures { out.new ≡ pick (eqb (length out.old) 320) (table_bytes row) out.old }
 {
-    if out.len() != 320 {
-        return;
+    if out.len() == 320 {
+        lay_table(out, row);
     }
-    lay_table(out, row);
 }
 
 // The empty table.
 pub fn empty_table() -> [Connection; 8]
     ensures { result ≡ empty_table }
 {
-    [
-        connection::fresh(0),
-        connection::fresh(1),
-        connection::fresh(2),
-        connection::fresh(3),
-        connection::fresh(4),
-        connection::fresh(5),
-        connection::fresh(6),
-        connection::fresh(7),
-    ]
+    std::array::from_fn(|i| connection::fresh(i as u8))
 }

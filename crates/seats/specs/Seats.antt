@@ -1,21 +1,28 @@
 -- Where a client's record stands or belongs, and the rows that a call leaves by it; a table of eight, in which a place past the end is 8.
-use Rattle.std.specs.Prelude.{ℕ, true, false, ◌&&◌, List, get_or, set, ltb, leb}
+use Rattle.std.specs.Prelude.{ℕ, ◌&&◌, List, get_or, set, ltb, leb, Option, Some, None}
 use Rattle.picks.specs.Pick.{pick}
 use Rattle.protocol.specs.declared.SdoClientInfo.{SdoClientInfo}
 use Rattle.protocol.specs.declared.Connection.{Connection}
 use Rattle.protocol.specs.ConnectionTable.{fresh, joining, is_closed}
-use Rattle.table.specs.Row.{seat_place, put_in, dropped_at}
+use Rattle.table.specs.Row.{place_in, seat_place, put_in, dropped_at}
+use Rattle.seats.specs.declared.Place.{Place}
+use Rattle.seats.specs.declared.Place.TheVariants.{Known, Joining}
 use Rattle.seats.specs.declared.Seat.{Seat}
 
 -- its own record, or the one that it joins with
-abbrev pub seat_in : SdoClientInfo → ℕ → ℕ → List Connection → Seat
-seat_in client place free row =
-    pick (ltb place 8) (record { known = true; place = place; own = get_or row place (fresh 0) }) (record { known = false; place = seat_place client row; own = joining client (get_or row free (fresh 0)).area })
+abbrev pub seat_in : SdoClientInfo → Option ℕ → Option ℕ → List Connection → Seat
+seat_in client (Some i) free row = record { place = Known i; own = get_or row i (fresh 0) }
+seat_in client None free row =
+    record { place = Joining (seat_place client row) (place_in free); own = joining client (get_or row (place_in free) (fresh 0)).area }
 
-abbrev pub back_row : Seat → ℕ → Connection → List Connection → List Connection
-back_row s free next row =
-    pick s.known (set row s.place next) (pick (leb s.place free && ltb free 8) (put_in s.place free next row) row)
+abbrev pub back_row : Place → Connection → List Connection → List Connection
+back_row (Known i) next row = set row i next
+back_row (Joining at free) next row = pick (leb at free && ltb free 8) (put_in at free next row) row
 
-abbrev pub settled_in : Seat → ℕ → Connection → List Connection → List Connection
-settled_in s free next row =
-    pick (is_closed next.state) (dropped_at (pick s.known s.place free) row) (back_row s free next row)
+-- the place that a dropped record leaves: its own, or the unused one that it would have taken
+abbrev pub left_at : Place → ℕ
+left_at (Known i) = i
+left_at (Joining at free) = free
+
+abbrev pub settled_in : Place → Connection → List Connection → List Connection
+settled_in p next row = pick (is_closed next.state) (dropped_at (left_at p) row) (back_row p next row)

@@ -1,63 +1,70 @@
 // A client's seat in the table's 320 bytes: where its record stands or belongs, the record, and how it is put back after a call.
 #![tactic(auto)]
 
-ghost use Rattle.std.specs.Prelude.{◌≡◌, true};
+ghost use Rattle.std.specs.Prelude.{◌≡◌};
 ghost use Rattle.format.specs.Format.{table_bytes, table_of};
 ghost use Rattle.seats.specs.Seats.{seat_in, back_row, settled_in};
 
 use protocol::{Connection, SdoClientInfo};
 
-// Where a client's record stands, or where it belongs if it has none, and the record.
+// Where a client's record stands, or where it belongs if it has none, with the place of the first unused record, whose area number it takes. A place past the end is 8.
+#[derive(Clone, Copy)]
+pub enum Place {
+    Known(usize),
+    Joining { at: usize, free: usize },
+}
+
+// A client's place, and the record that stands there or that it joins with.
 #[derive(Clone, Copy)]
 pub struct Seat {
-    pub known: bool,
-    pub place: usize,
+    pub place: Place,
     pub own: Connection,
 }
 
-// The client's seat, told the place of its record and of the first unused one, 8 where there is none.
-pub fn seat_of(t: &[u8; 320], client: SdoClientInfo, place: usize, free: usize) -> Seat
+// The client's seat, told the place of its record and of the first unused one.
+pub fn seat_of(
+    t: &[u8; 320],
+    client: SdoClientInfo,
+    place: Option<usize>,
+    free: Option<usize>,
+) -> Seat
     ensures { result ≡ seat_in client place free (table_of t.now) }
 {
-    if place < 8 {
-        let own = packed::record_at(t, place);
-        return Seat {
-            known: true,
-            place: place,
-            own: own,
-        };
-    }
-    let own = connection::joining(client, packed::area_at(t, free));
-    Seat {
-        known: false,
-        place: packed::seat_place(t, client),
-        own: own,
+    match place {
+        Some(i) => Seat {
+            place: Place::Known(i),
+            own: packed::record_at(t, i),
+        },
+        None => {
+            let at = packed::seat_place(t, client).unwrap_or(8);
+            let free = free.unwrap_or(8);
+            Seat {
+                place: Place::Joining { at, free },
+                own: connection::joining(client, packed::area_at(t, free)),
+            }
+        }
     }
 }
 
 // The record after a call goes to its seat.
-pub fn put_back(t: &mut [u8; 320], s: Seat, free: usize, next: Connection)
-    ensures { t.new ≡ table_bytes (back_row s free next (table_of t.old)) }
+pub fn put_back(t: &mut [u8; 320], place: Place, next: Connection)
+    ensures { t.new ≡ table_bytes (back_row place next (table_of t.old)) }
 {
-    if s.known {
-        packing::replace(t, s.place, next);
-        return;
+    match place {
+        Place::Known(i) => packing::replace(t, i, next),
+        Place::Joining { at, free } => packing::insert(t, at, free, next),
     }
-    packing::insert(t, s.place, free, next);
 }
 
 // The same after an answer: a record that is Closed is dropped. One that never stood in the table leaves its area number behind all others.
-pub fn settle(t: &mut [u8; 320], s: Seat, free: usize, next: Connection)
-    ensures { t.new ≡ table_bytes (settled_in s free next (table_of t.old)) }
+pub fn settle(t: &mut [u8; 320], place: Place, next: Connection)
+    ensures { t.new ≡ table_bytes (settled_in place next (table_of t.old)) }
 {
-    let state = next.state;
-    if connection::is_closed(state) {
-        if s.known {
-            packing::drop_at(t, s.place);
-            return;
-        }
-        packing::drop_at(t, free);
-        return;
+    if !connection::is_closed(next.state) {
+        return put_back(t, place, next);
     }
-    put_back(t, s, free, next);
+    match place {
+        Place::Known(i) => packing::drop_at(t, i),
+        Place::Joining { at: _, free } => packing::drop_at(t, free),
+    }
 }

@@ -11,7 +11,7 @@ returns c =
     let a = c.args in
     let short = le-ltb _ _ c.requires in
     record {
-      returned = c.of_request.ensures ∙ ap request_answer (c.addressed.ensures ∙ ap (addressed a.client) (c.put_answer-w.ensures.told ∙ sym (pick_f _ _ _ _ short refl)));
+      returned = c.of_request.ensures ∙ ap request_answer (c.addressed.ensures ∙ ap (addressed a.client) (c.put_answer-written.ensures.told ∙ sym (pick_f _ _ _ _ short refl)));
       table_left = c.settle.ensures;
-      answer_left = c.put_answer-w.ensures.left ∙ sym (pick_f _ _ _ _ short refl);
+      answer_left = c.put_answer-written.ensures.left ∙ sym (pick_f _ _ _ _ short refl);
     }

@@ -5,7 +5,7 @@ use Rattle.protocol.proofs.Ticks.{tick_accepted_by}
 use Rattle.protocol.specs.Calls.{told_checked, verdict}
 use Rattle.protocol.specs.Request.{request_of}
 use Rattle.protocol.specs.Tick.{tick_tests}
-use Rattle.outcomes.specs.Outcomes.{only, request_answer, row_of}
+use Rattle.outcomes.specs.Outcomes.{request_answer, row_of}
 use Rattle.export.specs.Exported.{left_by}
 use Rattle.format.specs.Format.{is_client, client_of, table_of}
 use mathlib.Core.Path.{sym, ap, ◌∙◌}
@@ -18,26 +18,26 @@ admitted-requires c =
     let t = a.t.now in
     let row = row_of known t in
     let k = sound_flag known t _ _ c.is_client.ensures c.is_sound.ensures in
-    let w = sym (ap told_checked (sym c.in-Accepted.is) ∙ c.check_lent-checked.ensures ∙ tick_tests_lem a.clock a.image.now a.answer.now row a.area.now (eight_row known t) _ k) in
+    let w = sym (ap told_checked (sym c.in-Ok.is) ∙ c.check_lent.ensures ∙ tick_tests_lem a.clock a.image.now a.answer.now row a.area.now (eight_row known t) _ k) in
     let row-eq = row_is known t (tick_accepted_by a.clock a.image.now a.answer.now row a.area.now w).table_sound in
     sym (ap (λ r. verdict (tick_tests a.clock a.image.now a.answer.now r a.area.now)) row-eq) ∙ w
 
-pub returns-in-Refused : goal.returns-in-Refused
-returns-in-Refused c =
+pub returns-in-Err : goal.returns-in-Err
+returns-in-Err c =
     let a = c.args in
     let known = is_client a.who.now in
     let t = a.t.now in
     let row = row_of known t in
     let k = sound_flag known t _ _ c.is_client.ensures c.is_sound.ensures in
-    refused_lent a.clock a.image.now a.answer.now row a.area.now t (client_of a.who.now) a.request.now _ _ (eight_row known t) (ap told_checked (sym c.in-Refused.is) ∙ c.check_lent-checked.ensures ∙ tick_tests_lem a.clock a.image.now a.answer.now row a.area.now (eight_row known t) _ k) (c.only.ensures ∙ ap only c.refusal_number.ensures)
+    refused_lent a.clock a.image.now a.answer.now row a.area.now t (client_of a.who.now) a.request.now _ _ (eight_row known t) (ap told_checked (sym c.in-Err.is) ∙ c.check_lent.ensures ∙ tick_tests_lem a.clock a.image.now a.answer.now row a.area.now (eight_row known t) _ k) c.refused.ensures
 
-pub returns-in-Accepted : goal.returns-in-Accepted
-returns-in-Accepted c =
+pub returns-in-Ok : goal.returns-in-Ok
+returns-in-Ok c =
     let a = c.args in
     let known = is_client a.who.now in
     let t = a.t.now in
     let row = row_of known t in
     let k = sound_flag known t _ _ c.is_client.ensures c.is_sound.ensures in
-    let w = sym (ap told_checked (sym c.in-Accepted.is) ∙ c.check_lent-checked.ensures ∙ tick_tests_lem a.clock a.image.now a.answer.now row a.area.now (eight_row known t) _ k) in
+    let w = sym (ap told_checked (sym c.in-Ok.is) ∙ c.check_lent.ensures ∙ tick_tests_lem a.clock a.image.now a.answer.now row a.area.now (eight_row known t) _ k) in
     let row-eq = row_is known t (tick_accepted_by a.clock a.image.now a.answer.now row a.area.now w).table_sound in
     c.admitted.ensures ∙ ap (λ k. left_by request_answer t (request_of k a.clock a.request.now a.image.now a.answer.now (table_of t) a.area.now)) c.client_in-client.ensures ∙ ap (λ r. left_by request_answer t (request_of (client_of a.who.now) a.clock a.request.now a.image.now a.answer.now r a.area.now)) (sym row-eq)

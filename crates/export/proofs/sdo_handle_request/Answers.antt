@@ -1,17 +1,17 @@
 -- Refused by the length, or the call on a copy of the bytes.
 use Rattle.export.specs.Exported.{request_bytes}
-use Rattle.export.proofs.Through.{request_through_lem, client_laid}
+use Rattle.export.proofs.Through.{request_through_lem}
+use Rattle.octets.proofs.Little.{low_bytes}
 use mathlib.Core.Path.{◌∙◌}
 use borrow.Author.Tests.{ne_eqb}
 use Rattle.picks.proofs.Picks.{pick_f}
 use Rattle.export.proofs.sdo_handle_request.Goals as goal
 
-pub returns-then-table-ne320 : goal.returns-then-table-ne320
+pub returns-in_default : goal.returns-in_default
 unfolding request_bytes
-returns-then-table-ne320 c = pick_f _ _ _ _ (ne_eqb _ _ c.if-table-ne320.true) (rw c.only.ensures)
-
-pub give_back-requires : goal.give_back-requires
-give_back-requires c = c.if-table-ne320.false
+returns-in_default c = pick_f _ _ _ _ (ne_eqb _ _ c.in_default.ensures.cases) (rw c.only.ensures)
 
 pub returns : goal.returns
-returns c = request_through_lem _ _ _ _ _ _ _ _ _ _ _ _ _ _ _ c.if-table-ne320.false (c.store_u64.ensures ∙ client_laid _) c.lent_bytes-t.ensures c.handle_request-told.ensures c.give_back.ensures
+returns c =
+    let lent = c.in-Some.ensures.cases in
+    request_through_lem _ _ _ _ _ _ _ _ _ _ _ _ _ _ _ lent.long (c.to_le_bytes-who.ensures ∙ low_bytes 8 c.args.client) lent.same c.handle_request-told.ensures c.copy_from_slice.ensures.after

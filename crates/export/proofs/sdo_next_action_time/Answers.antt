@@ -6,12 +6,16 @@ use borrow.Author.Tests.{ne_eqb}
 use Rattle.picks.proofs.Picks.{flag, pick_f}
 use Rattle.export.proofs.sdo_next_action_time.Goals as goal
 
-pub returns-then-table-ne320 : goal.returns-then-table-ne320
+pub returns-in_default : goal.returns-in_default
 unfolding query_bytes
-returns-then-table-ne320 c = pick_f _ _ _ _ (ne_eqb _ _ c.if-table-ne320.true) refl
+returns-in_default c = pick_f _ _ _ _ (ne_eqb _ _ c.in_default.ensures.cases) refl
 
 pub returns-then-is_sound : goal.returns-then-is_sound
-returns-then-is_sound c = c.of_query.ensures ∙ query_sound_bytes _ _ _ _ c.if-table-ne320.false c.lent_bytes-t.ensures c.next_deadline.ensures c.next_action.ensures (flag c.is_sound.ensures c.if-is_sound.true)
+returns-then-is_sound c =
+    let lent = c.in-Some.ensures.cases in
+    c.of_query.ensures ∙ query_sound_bytes _ _ _ lent.long lent.same c.next_deadline.ensures (flag c.is_sound.ensures c.if-is_sound.true)
 
-pub returns : goal.returns
-returns c = c.of_query-2.ensures ∙ query_unsound_bytes _ _ c.if-table-ne320.false c.lent_bytes-t.ensures (flag c.is_sound.ensures c.if-is_sound.false)
+pub returns-else-is_sound : goal.returns-else-is_sound
+returns-else-is_sound c =
+    let lent = c.in-Some.ensures.cases in
+    c.of_query-else-is_sound.ensures ∙ query_unsound_bytes _ _ lent.long lent.same (flag c.is_sound.ensures c.if-is_sound.false)

@@ -5,12 +5,11 @@ use borrow.Author.Tests.{ne_eqb}
 use Rattle.picks.proofs.Picks.{pick_f}
 use Rattle.export.proofs.sdo_tick.Goals as goal
 
-pub returns-then-table-ne320 : goal.returns-then-table-ne320
+pub returns-in_default : goal.returns-in_default
 unfolding tick_bytes
-returns-then-table-ne320 c = pick_f _ _ _ _ (ne_eqb _ _ c.if-table-ne320.true) (rw c.only.ensures)
-
-pub give_back-requires : goal.give_back-requires
-give_back-requires c = c.if-table-ne320.false
+returns-in_default c = pick_f _ _ _ _ (ne_eqb _ _ c.in_default.ensures.cases) (rw c.only.ensures)
 
 pub returns : goal.returns
-returns c = tick_through_lem _ _ _ _ _ _ _ _ _ _ c.if-table-ne320.false c.lent_bytes-t.ensures c.tick-told.ensures c.give_back.ensures
+returns c =
+    let lent = c.in-Some.ensures.cases in
+    tick_through_lem _ _ _ _ _ _ _ _ _ _ lent.long lent.same c.tick-told.ensures c.copy_from_slice.ensures.after

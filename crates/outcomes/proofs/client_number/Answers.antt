@@ -6,4 +6,4 @@ use mathlib.Core.Path.{ap, ◌∙◌}
 use Rattle.outcomes.proofs.client_number.Goals as goal
 
 pub returns : goal.returns
-returns c = c.u64_at.ensures ∙ ap (λ s. le (take 8 s)) c.client_bytes.ensures ∙ client_whole _
+returns c = c.number_at.ensures ∙ ap (λ s. le (take 8 s)) c.client_bytes.ensures ∙ client_whole _

@@ -5,11 +5,7 @@ use Rattle.format.specs.Format.{table_of}
 use Rattle.picks.specs.Pick.{checks}
 use lib.ListN.{length, drop}
 use mathlib.Core.Path.{◌≡◌}
-use Prim.Native.Nat.{◌-◌, ◌≤◌}
 use Rattle.packed.proofs.areas_once.Given as goal
 
-abbrev pub invariant-loop-i : goal.invariant-loop-i
-invariant-loop-i l = (l.i ≤ 8) × (length l.seen ≡ 8) × (areas_once (table_of l.t) ≡ checks unseen mark l.seen (drop l.i (table_of l.t)))
-
-abbrev pub decreases-loop-i : goal.decreases-loop-i
-decreases-loop-i l = 8 - l.i
+abbrev pub invariant-loop-r : goal.invariant-loop-r
+invariant-loop-r l = (length l.seen ≡ 8) × (areas_once (table_of l.fn.t) ≡ checks unseen mark l.seen (drop l.r-index (table_of l.fn.t)))

@@ -1,22 +1,20 @@
--- The copy is the part of 40 bytes.
+-- The record of its row, or past the end.
 use Rattle.format.specs.Format.{record_of}
 use Rattle.protocol.specs.ConnectionTable.{fresh}
-use Rattle.packed.specs.Packed.{bytes_of}
-use Rattle.format.proofs.Places.{record_at, record_past}
-use Rattle.format.proofs.Writing.{splice_whole}
-use lib.Seq.{length-take-le}
-use lib.ListN.{length, drop, replicate, length-drop}
-use mathlib.Core.Path.{◌≡◌, sym, ap, ◌∙◌}
-use Prim.Native.Nat.{◌*◌}
+use Rattle.format.proofs.Places.{record_past}
+use Rattle.packed.proofs.Searches.{record_in}
+use borrow.Author.Tests.{ltb-true, ltb-false}
+use mathlib.Core.Path.{sym, ap, ◌∙◌}
 use native.Mathlib.Omega.{arith}
 use Rattle.packed.proofs.record_at.Goals as goal
 
-pub returns-then-i-lt8 : goal.returns-then-i-lt8
-returns-then-i-lt8 c =
-    let a = c.args in
-    let s = a.t.now in
-    let l : length (bytes_of a.i s) ≡ 40 = length-take-le 40 (drop (40 * a.i) s) (simp length-drop (omega arith)) in
-    c.record_of.ensures ∙ ap record_of (c.copy_at.ensures ∙ rw c.part.ensures (splice_whole (bytes_of a.i s) (replicate 40 0) l)) ∙ sym (record_at s (fresh 0) a.i c.if-i-lt8.true)
+pub returns-in-Some : goal.returns-in-Some
+returns-in-Some c =
+    let found = c.in-Some.ensures.lookup in
+    let e = record_in c.args.t.now c.rows.result.now c.rows.ensures.value c.args.i (fresh 0) _ (ltb-true _ _ (sym found.0)) in
+    c.record_of.ensures ∙ ap record_of found.1 ∙ sym e
 
-pub returns : goal.returns
-returns c = let a = c.args in c.fresh.ensures ∙ sym (record_past a.t.now (fresh 0) a.i (omega arith))
+pub returns-in-None : goal.returns-in-None
+returns-in-None c =
+    let past = ltb-false _ _ (sym c.in-None.ensures.lookup.0) in
+    c.fresh.ensures ∙ sym (record_past c.args.t.now (fresh 0) c.args.i (omega (arith, past, c.rows.ensures.len)))

@@ -1,24 +1,12 @@
--- After i turns the first i records are such.
-use mathlib.Core.Path.{refl}
-use Rattle.picks.proofs.Keep.{not_both}
-use Rattle.packing.proofs.Plain.{same_more, same_table}
-use borrow.Author.Rules.{rules}
-use native.Mathlib.Omega.{arith}
+-- A test of every row.
+use Rattle.std.proofs.Common.{rules, tests, ◌∙◌}
+use Rattle.std.proofs.lemmas.Iterator.{YieldsList-from_slice, cases_from_all}
+use Rattle.std.specs.Bool.{⊤}
+use Rattle.format.specs.Format.{rows}
+use Rattle.packing.specs.Plain.{SameRecord}
+use Rattle.packing.proofs.Plain.{same_table, true_case}
 use Rattle.packing.proofs.is_plain.Goals as goal
 
-pub loop-i-init : goal.loop-i-init
-loop-i-init c = (search rules, λ j h. absurd (omega arith))
-
-pub plain_record-requires : goal.plain_record-requires
-plain_record-requires c = let h = c.requires in (search rules, h.0, h.1)
-
-pub returns-then-not-plain_record : goal.returns-then-not-plain_record
-returns-then-not-plain_record c t = not_both t refl
-
-pub loop-i-preserved : goal.loop-i-preserved
-loop-i-preserved c =
-    let l = c.loop-i in
-    (search rules, same_more l.i _ l.invariant.1 (c.plain_record.ensures c.if-not-plain_record.false))
-
 pub returns : goal.returns
-returns c t = let l = c.loop-i in same_table _ c.requires.0 (λ j h. l.invariant.1 j (omega arith))
+returns c t =
+    same_table c.args.t.now c.told-t (true_case _ c.all.result (cases_from_all c.all.new.self _ c.all.result SameRecord (λ _. ⊤) c.all.ensures.ran (YieldsList-from_slice (rows 8 0 c.args.t.now) (c.iter.ensures.rest ∙ c.rows.ensures.value)) (λ x q k. search (rules, tests)) (λ x q k. tt)) t)

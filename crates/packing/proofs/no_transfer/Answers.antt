@@ -1,19 +1,13 @@
 -- Four numbers that are 0.
-use mathlib.Core.Path.{refl, sym, ◌∙◌}
-use Rattle.picks.proofs.Keep.{not_both}
-use Rattle.packing.proofs.Plain.{no_transfer_at}
+use mathlib.Core.Path.{sym, ◌∙◌}
+use borrow.Author.Tests.{eqb-true}
+use Rattle.picks.proofs.Keep.{of_both}
+use Rattle.packing.proofs.Plain as Plain
 use Rattle.packing.proofs.no_transfer.Goals as goal
 
-pub returns-then-u64_at-ne0 : goal.returns-then-u64_at-ne0
-returns-then-u64_at-ne0 c t = not_both t refl
-
-pub returns-then-u64_at-ne0-2 : goal.returns-then-u64_at-ne0-2
-returns-then-u64_at-ne0-2 c t = not_both t refl
-
-pub returns-then-u64_at-ne0-3 : goal.returns-then-u64_at-ne0-3
-returns-then-u64_at-ne0-3 c t = not_both t refl
-
 pub returns : goal.returns
-returns c =
-    let a = c.args in
-    rw c.u64_at-4.ensures (no_transfer_at a.at a.s.now c.requires (sym c.u64_at.ensures ∙ c.if-u64_at-ne0.false) (sym c.u64_at-2.ensures ∙ c.if-u64_at-ne0-2.false) (sym c.u64_at-3.ensures ∙ c.if-u64_at-ne0-3.false))
+returns c t =
+    let d = of_both _ _ t in
+    let e = of_both _ _ d.0 in
+    let f = of_both _ _ e.0 in
+    Plain.no_transfer c.args.r.now c.fits-r c.told-r (sym c.number_at-first.ensures ∙ eqb-true _ _ f.0) (sym c.number_at-second.ensures ∙ eqb-true _ _ f.1) (sym c.number_at.ensures ∙ eqb-true _ _ e.1) (sym c.number_at-2.ensures ∙ eqb-true _ _ d.1)

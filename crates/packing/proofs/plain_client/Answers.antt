@@ -1,9 +1,20 @@
 -- By the client's kind.
-use Rattle.packing.proofs.Plain.{asnd_at, udp_at}
+use Rattle.std.proofs.Common.{rules, get_or, Fits, w8}
+use Rattle.octets.specs.Octets.{AllBytes}
+use Rattle.picks.proofs.Keep.{of_both}
+use borrow.Author.Tests.{eqb-true}
+use Rattle.packing.proofs.Plain.{same_asnd, same_udp}
 use Rattle.packing.proofs.plain_client.Goals as goal
 
-pub returns-then-kind-eq0 : goal.returns-then-kind-eq0
-returns-then-kind-eq0 c t = let a = c.args in asnd_at a.at a.s.now c.requires c.if-kind-eq0.true
+pub returns-then-r-eq0 : goal.returns-then-r-eq0
+returns-then-r-eq0 c t =
+    let r = c.args.r.now in
+    let bytes : AllBytes r = λ i. let byte : Fits w8 (get_or r i 0) = search rules in byte.fits in
+    same_asnd r bytes c.told-r c.if-r-eq0.true
 
-pub returns : goal.returns
-returns c = let a = c.args in udp_at a.at a.s.now c.requires
+pub returns-else-r-eq0 : goal.returns-else-r-eq0
+returns-else-r-eq0 c t =
+    let r = c.args.r.now in
+    let bytes : AllBytes r = λ i. let byte : Fits w8 (get_or r i 0) = search rules in byte.fits in
+    let p = of_both _ _ t in
+    same_udp r bytes c.told-r (eqb-true _ _ p.0) (eqb-true _ _ p.1)

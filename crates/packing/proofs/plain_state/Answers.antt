@@ -1,14 +1,11 @@
--- By the state: without a transfer, with one, and none at all.
-use mathlib.Core.Path.{refl}
-use Rattle.picks.proofs.Keep.{not_both}
-use Rattle.packing.proofs.Plain.{state_blank_at, state_busy_at}
+-- By the state: without a transfer, and with one.
+use borrow.Author.Tests.{ltb-true}
+use Rattle.picks.proofs.Keep.{of_both}
+use Rattle.packing.proofs.Plain.{same_state_blank, same_state_busy}
 use Rattle.packing.proofs.plain_state.Goals as goal
 
-pub returns-then-state-lt3 : goal.returns-then-state-lt3
-returns-then-state-lt3 c t = let a = c.args in state_blank_at a.at a.s.now c.requires c.if-state-lt3.true (c.no_transfer.ensures t)
+pub returns-then-r-lt3 : goal.returns-then-r-lt3
+returns-then-r-lt3 c t = same_state_blank c.args.r.now c.fits-r c.told-r c.if-r-lt3.true (c.no_transfer.ensures t)
 
-pub returns-then-state-lt5 : goal.returns-then-state-lt5
-returns-then-state-lt5 c t = let a = c.args in state_busy_at a.at a.s.now c.requires c.if-state-lt3.false c.if-state-lt5.true (c.plain_transfer.ensures t)
-
-pub returns : goal.returns
-returns c t = not_both t refl
+pub returns-else-r-lt3 : goal.returns-else-r-lt3
+returns-else-r-lt3 c t = let d = of_both _ _ t in same_state_busy c.args.r.now c.fits-r c.told-r c.if-r-lt3.false (ltb-true _ _ d.0) (c.plain_transfer.ensures d.1)

@@ -1,19 +1,20 @@
 -- The last byte, two flags and a deadline.
-use mathlib.Core.Path.{refl}
-use Rattle.picks.proofs.Keep.{not_both}
-use Rattle.packing.proofs.Plain.{timed_at, untimed_at}
+use borrow.Author.Tests.{eqb-true, leb-true, eq-eqb}
+use native.Mathlib.Omega.{arith}
+use Rattle.picks.proofs.Keep.{of_both}
+use Rattle.packing.proofs.Plain.{same_transfer}
 use Rattle.packing.proofs.plain_transfer.Goals as goal
 
-pub returns-then-s-at-ne0 : goal.returns-then-s-at-ne0
-returns-then-s-at-ne0 c t = not_both t refl
+pub returns-then-r-eq1 : goal.returns-then-r-eq1
+returns-then-r-eq1 c t =
+    let e = of_both _ _ t in
+    let timed = c.if-r-eq1.true in
+    same_transfer c.args.r.now c.fits-r c.told-r (eqb-true _ _ e.0) (leb-true _ _ e.1) (omega arith) (rw (eq-eqb _ 1 timed))
 
-pub returns-then-s-at-gt1 : goal.returns-then-s-at-gt1
-returns-then-s-at-gt1 c t = not_both t refl
-
-pub returns-then-timed-eq1 : goal.returns-then-timed-eq1
-returns-then-timed-eq1 c t = let a = c.args in timed_at a.at a.s.now c.requires c.if-s-at-ne0.false c.if-s-at-gt1.false c.if-timed-eq1.true
-
-pub returns : goal.returns
-returns c =
-    let a = c.args in
-    rw c.u64_at.ensures (untimed_at a.at a.s.now c.requires c.if-s-at-ne0.false c.if-s-at-gt1.false)
+pub returns-else-r-eq1 : goal.returns-else-r-eq1
+returns-else-r-eq1 c t =
+    let d = of_both _ _ (rw c.number_at.ensures at t) in
+    let f = of_both _ _ d.0 in
+    let e = of_both _ _ f.0 in
+    let untimed = eqb-true _ _ f.1 in
+    same_transfer c.args.r.now c.fits-r c.told-r (eqb-true _ _ e.0) (leb-true _ _ e.1) (omega arith) (rw (untimed, d.1))

@@ -1,12 +1,18 @@
--- Another length, or eight tests.
-use borrow.Author.Tests.{ne_eqb}
-use Rattle.format.specs.Format.{is_table}
-use Rattle.format.proofs.Reading.{eight_tests}
+-- Another length, or a test of every row.
+use Rattle.std.proofs.Common.{rules, tests, ◌∙◌, ne_eqb}
+use Rattle.std.proofs.lemmas.Iterator.{YieldsList-from_slice}
+use Rattle.std.proofs.lemmas.Iterator.Search.{all_from_yields_List}
+use Rattle.format.specs.Format.{rows, is_record, is_table}
+use Rattle.record.proofs.Parts.{all_every}
 use Rattle.record.proofs.is_table.Goals as goal
 
-pub returns-then-s-ne320 : goal.returns-then-s-ne320
+pub returns-in-Some : goal.returns-in-Some
 unfolding is_table
-returns-then-s-ne320 c = rw (ne_eqb _ _ c.if-s-ne320.true)
+returns-in-Some c =
+    let w = c.in-Some.ensures.cases in
+    let t = c.in-Some.t.now in
+    all_from_yields_List is_record _ _ c.all.result c.all.ensures.ran (YieldsList-from_slice (rows 8 0 t) (c.iter.ensures.rest ∙ c.rows.ensures.value)) (λ x b q k. search (rules, tests)) ∙ all_every is_record (rows 8 0 t) ∙ rw (w.same, w.long)
 
-pub returns : goal.returns
-returns c = rw (c.is_record-8.ensures, c.is_record-7.ensures, c.is_record-6.ensures, c.is_record-5.ensures, c.is_record-4.ensures, c.is_record-3.ensures, c.is_record-2.ensures, c.is_record.ensures) (eight_tests _ c.if-s-ne320.false)
+pub returns-in-None : goal.returns-in-None
+unfolding is_table
+returns-in-None c = rw (ne_eqb _ _ c.in-None.ensures.cases)
