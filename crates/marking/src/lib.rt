@@ -2,9 +2,9 @@
 #![tactic(auto)]
 
 ghost use Rattle.std.specs.Prelude.{◌≡◌};
-ghost use Rattle.marking.specs.Marks.{asks_of, last_event, reading_event, piece_event, denial_event, event_where, first_of, denied, with_piece, with_end, with_finish, opens, asked, marks_after, answered_marks, refused_marks, unmarked_of, denial_mark, unfinished_mark, mark_of, empty_book, anew_book, noted_of, answered_book, refused_book};
+ghost use Rattle.marking.specs.Marks.{asks_of, last_event, reading_event, piece_event, denial_event, denied, with_piece, with_finish, event_marks, marks_after, answered_marks, refused_marks, unmarked_of, denial_mark, unfinished_mark, mark_of, empty_book, anew_book, opens_in, noted_of, answered_book, refused_book};
 
-use protocol::SdoClientInfo;
+use protocol::{ReceiveConnState, SdoClientInfo, SendConnState};
 use reading::frame::Frame;
 use reading::{Piece, Reading, frame, rows};
 
@@ -32,30 +32,24 @@ pub enum Event {
     Ended(u32),
     // It was sent whole: how many bytes.
     Finished(u32),
-    // Nothing that counts.
-    Nothing,
 }
 
-// What denied an object: nothing, an abort's code, or a refusal's number.
+// What denied an object: an abort's code, or a refusal's number.
 #[derive(Clone, Copy)]
 pub enum Denial {
-    Nothing,
     Code(u32),
     Number(u8),
 }
 
-// What the events so far come to: the first denial, how far the reading went that came furthest, the code that ended the last one, and the length of the first finish that has another length than the exercise.
+// What the events so far come to: the first denial, the bytes sent and all bytes of the reading that came furthest, the code that ended the last one, and the length of the first finish that has another length than the exercise.
 #[derive(Clone, Copy)]
 pub struct Marks {
     pub opened: bool,
     pub asked: bool,
-    pub denial: Denial,
-    pub begun: bool,
-    pub sent: u32,
-    pub total: u32,
-    pub ended: u32,
-    pub finished: bool,
-    pub other: u32,
+    pub denial: Option<Denial>,
+    pub furthest: Option<(u32, u32)>,
+    pub ended: Option<u32>,
+    pub other: Option<u32>,
     pub passed: bool,
 }
 
@@ -71,7 +65,7 @@ pub struct Book {
 pub struct Noted {
     pub piece: Piece,
     pub reading: Reading,
-    pub event: Event,
+    pub event: Option<Event>,
     pub book: Book,
 }
 
@@ -93,12 +87,12 @@ fn asks(e: Exercise, f: Frame, bytes: &[u8]) -> bool
     ensures { result ≡ asks_of e f bytes.now }
 {
     let payload = frame::payload(f, bytes);
-    reading::is_read(f)
-        & (octets::u16_at(payload, 0) == e.index)
-        & (octets::byte_at(payload, 2) == e.sub)
+    let index: u16 = octets::number_at(payload, 0);
+    reading::is_read(f) & (index == e.index) & (octets::byte_at(payload, 2) == e.sub)
 }
 
 // What the last piece of a reading says: a finish where all bytes of the size in Initiate were sent.
+#[tactic(auto, unfolding(crate::specs::Marks::last_event, picks::specs::Pick::pick))]
 fn last_event(r: Reading) -> Event
     ensures { result ≡ last_event r }
 {
@@ -108,162 +102,124 @@ fn last_event(r: Reading) -> Event
     Event::Sent(r.sent, r.total)
 }
 
-// An event that counts where it happened.
-fn event_where(happened: bool, event: Event) -> Event
-    ensures { result ≡ event_where happened event }
-{
-    if happened {
-        return event;
-    }
-    Event::Nothing
-}
-
 // What an answer says of a reading, given whether it ran before and what it is after.
-fn reading_event(ran: bool, r: Reading, p: Piece) -> Event
+fn reading_event(ran: bool, r: Reading, p: Piece) -> Option<Event>
     ensures { result ≡ reading_event ran r p }
 {
     match p {
-        Piece::Other => Event::Nothing,
-        Piece::Whole => Event::Finished(r.sent),
-        Piece::First(total) => Event::Sent(r.sent, r.total),
-        Piece::Next => event_where(ran, Event::Sent(r.sent, r.total)),
-        Piece::Last => event_where(ran, last_event(r)),
-        Piece::Again => Event::Nothing,
-        Piece::Abort(code) => event_where(ran, Event::Ended(code)),
+        Piece::Other | Piece::Again => None,
+        Piece::Whole => Some(Event::Finished(r.sent)),
+        Piece::First(_) => Some(Event::Sent(r.sent, r.total)),
+        Piece::Next => ran.then_some(Event::Sent(r.sent, r.total)),
+        Piece::Last => ran.then_some(last_event(r)),
+        Piece::Abort(code) => ran.then_some(Event::Ended(code)),
     }
 }
 
 // What an answer says of the exercise: nothing where the reading is of another object.
-fn piece_event(e: Exercise, ran: bool, r: Reading, p: Piece) -> Event
+#[tactic(auto, unfolding(crate::specs::Marks::piece_event, picks::specs::Pick::pick))]
+fn piece_event(e: Exercise, ran: bool, r: Reading, p: Piece) -> Option<Event>
     ensures { result ≡ piece_event e ran r p }
 {
-    event_where(
-        (r.index == e.index) & (r.sub == e.sub),
-        reading_event(ran, r, p),
-    )
+    if (r.index == e.index) & (r.sub == e.sub) {
+        return reading_event(ran, r, p);
+    }
+    None
 }
 
 // What the answer to a request for the exercise's object says, where it is an abort.
-fn denial_event(asked: bool, p: Piece) -> Event
+fn denial_event(asked: bool, p: Piece) -> Option<Event>
     ensures { result ≡ denial_event asked p }
 {
     match p {
-        Piece::Other => Event::Nothing,
-        Piece::Whole => Event::Nothing,
-        Piece::First(total) => Event::Nothing,
-        Piece::Next => Event::Nothing,
-        Piece::Last => Event::Nothing,
-        Piece::Again => Event::Nothing,
-        Piece::Abort(code) => event_where(asked, Event::Aborted(code)),
+        Piece::Abort(code) => asked.then_some(Event::Aborted(code)),
+        _ => None,
     }
 }
 
-// Of two denials the first, where there is one.
-fn first_denial(first: Denial, next: Denial) -> Denial
-    ensures { result ≡ first_of first next }
-{
-    match first {
-        Denial::Nothing => next,
-        Denial::Code(code) => first,
-        Denial::Number(number) => first,
-    }
-}
-
-// The marks with a denial.
+// The marks with a denial: the first one counts.
 fn with_denial(m: Marks, d: Denial) -> Marks
     ensures { result ≡ denied m d }
 {
-    let first = m.denial;
     Marks {
-        opened: m.opened,
-        asked: m.asked,
-        denial: first_denial(first, d),
-        begun: m.begun,
-        sent: m.sent,
-        total: m.total,
-        ended: m.ended,
-        finished: m.finished,
-        other: m.other,
-        passed: m.passed,
+        denial: m.denial.or(Some(d)),
+        ..m
     }
 }
 
 // The marks with a piece, which counts where no reading came further.
-fn with_piece(mut m: Marks, sent: u32, total: u32) -> Marks
+#[tactic(auto, unfolding(crate::specs::Marks::further_of, picks::specs::Pick::pick))]
+fn with_piece(m: Marks, sent: u32, total: u32) -> Marks
     ensures { result ≡ with_piece m sent total }
 {
-    m.begun = true;
-    m.ended = 0;
-    if m.sent < sent {
-        m.sent = sent;
-        m.total = total;
-        return m;
+    let before = m.furthest.unwrap_or((0, 0));
+    let furthest = if before.0 < sent {
+        (sent, total)
+    } else {
+        before
+    };
+    Marks {
+        furthest: Some(furthest),
+        ended: None,
+        ..m
     }
-    m
 }
 
-// The marks with a reading ended by an abort.
-fn with_end(mut m: Marks, code: u32) -> Marks
-    ensures { result ≡ with_end m code }
-{
-    m.ended = code;
-    m
-}
-
-// The marks with a finish: the exercise is passed where it has the length that is asked.
-fn with_finish(mut m: Marks, e: Exercise, length: u32) -> Marks
+// The marks with a finish: the exercise is passed where it has the length that is asked. Of the other lengths the first counts.
+#[tactic(auto, unfolding(crate::specs::Marks::with_finish, picks::specs::Pick::pick))]
+fn with_finish(m: Marks, e: Exercise, length: u32) -> Marks
     ensures { result ≡ with_finish m e length }
 {
     if length == e.length {
-        m.passed = true;
-        return m;
+        return Marks { passed: true, ..m };
     }
-    if m.finished {
-        return m;
+    Marks {
+        other: m.other.or(Some(length)),
+        ..m
     }
-    m.finished = true;
-    m.other = length;
-    m
 }
 
-// The marks with an opening.
-fn with_opening(mut m: Marks) -> Marks
-    ensures { result ≡ opens m }
-{
-    m.opened = true;
-    m
-}
-
-// The marks with a request for the object.
-fn with_request(mut m: Marks) -> Marks
-    ensures { result ≡ asked m }
-{
-    m.asked = true;
-    m
-}
-
-// The marks after an event.
-fn after(m: Marks, e: Exercise, event: Event) -> Marks
-    ensures { result ≡ marks_after e m event }
+// The marks after an event. An abort without a code confirms the client's own.
+fn after_event(m: Marks, e: Exercise, event: Event) -> Marks
+    ensures { result ≡ event_marks e m event }
 {
     match event {
-        Event::Opened => with_opening(m),
-        Event::Asked => with_request(m),
+        Event::Opened => Marks { opened: true, ..m },
+        Event::Asked => Marks { asked: true, ..m },
         Event::Aborted(code) => with_denial(m, Denial::Code(code)),
         Event::Refused(number) => with_denial(m, Denial::Number(number)),
         Event::Sent(sent, total) => with_piece(m, sent, total),
-        Event::Ended(code) => with_end(m, code),
+        Event::Ended(code) => Marks {
+            ended: (code != 0).then_some(code),
+            ..m
+        },
         Event::Finished(length) => with_finish(m, e, length),
-        Event::Nothing => m,
+    }
+}
+
+// The marks after what a call says.
+fn after(m: Marks, e: Exercise, event: Option<Event>) -> Marks
+    ensures { result ≡ marks_after e m event }
+{
+    match event {
+        Some(event) => after_event(m, e, event),
+        None => m,
     }
 }
 
 // The marks after an answer: whether it opened a connection, whether the exercise's object was asked for, what the answer is, and what that says of a reading.
-fn after_answered(m: Marks, e: Exercise, opened: bool, asked: bool, p: Piece, event: Event) -> Marks
+fn after_answered(
+    m: Marks,
+    e: Exercise,
+    opened: bool,
+    asked: bool,
+    p: Piece,
+    event: Option<Event>,
+) -> Marks
     ensures { result ≡ answered_marks m e opened asked p event }
 {
-    let a = after(m, e, event_where(opened, Event::Opened));
-    let b = after(a, e, event_where(asked, Event::Asked));
+    let a = after(m, e, opened.then_some(Event::Opened));
+    let b = after(a, e, asked.then_some(Event::Asked));
     let c = after(b, e, denial_event(asked, p));
     after(c, e, event)
 }
@@ -272,8 +228,8 @@ fn after_answered(m: Marks, e: Exercise, opened: bool, asked: bool, p: Piece, ev
 fn after_refused(m: Marks, e: Exercise, asked: bool, number: u8) -> Marks
     ensures { result ≡ refused_marks m e asked number }
 {
-    let a = after(m, e, event_where(asked, Event::Asked));
-    after(a, e, event_where(asked, Event::Refused(number)))
+    let a = after(m, e, asked.then_some(Event::Asked));
+    after(a, e, asked.then_some(Event::Refused(number)))
 }
 
 // The marks before any event.
@@ -283,29 +239,27 @@ fn unmarked() -> Marks
     Marks {
         opened: false,
         asked: false,
-        denial: Denial::Nothing,
-        begun: false,
-        sent: 0,
-        total: 0,
-        ended: 0,
-        finished: false,
-        other: 0,
+        denial: None,
+        furthest: None,
+        ended: None,
+        other: None,
         passed: false,
     }
 }
 
 // Why an object that was asked for was not sent.
-fn denial_mark(d: Denial) -> Mark
+fn denial_mark(d: Option<Denial>) -> Mark
     ensures { result ≡ denial_mark d }
 {
     match d {
-        Denial::Nothing => Mark::NotAnswered,
-        Denial::Code(code) => Mark::DeniedBy(code),
-        Denial::Number(number) => Mark::RefusedWith(number),
+        None => Mark::NotAnswered,
+        Some(Denial::Code(code)) => Mark::DeniedBy(code),
+        Some(Denial::Number(number)) => Mark::RefusedWith(number),
     }
 }
 
 // The mark where no reading of the object finished: the first step that is missing.
+#[tactic(auto, unfolding(crate::specs::Marks::unfinished_mark, picks::specs::Pick::pick))]
 fn unfinished_mark(m: Marks) -> Mark
     ensures { result ≡ unfinished_mark m }
 {
@@ -315,24 +269,24 @@ fn unfinished_mark(m: Marks) -> Mark
     if !m.asked {
         return Mark::NotAsked;
     }
-    if m.begun {
-        return Mark::Stopped(m.sent, m.total);
+    match m.furthest {
+        Some((sent, total)) => Mark::Stopped(sent, total),
+        None => denial_mark(m.denial),
     }
-    let d = m.denial;
-    denial_mark(d)
 }
 
 // The mark.
+#[tactic(auto, unfolding(crate::specs::Marks::mark_of, picks::specs::Pick::pick))]
 pub fn mark_of(m: Marks) -> Mark
     ensures { result ≡ mark_of m }
 {
     if m.passed {
         return Mark::Passed;
     }
-    if m.finished {
-        return Mark::OtherLength(m.other);
+    match m.other {
+        Some(length) => Mark::OtherLength(length),
+        None => unfinished_mark(m),
     }
-    unfinished_mark(m)
 }
 
 // A book with nothing in it.
@@ -349,40 +303,50 @@ pub fn empty() -> Book
 pub fn anew(b: Book) -> Book
     ensures { result ≡ anew_book b }
 {
-    let marks = b.marks;
     Book {
-        marks: marks,
         readings: rows::none(),
+        ..b
+    }
+}
+
+// Whether an answer is under initialisation, which opens a connection.
+fn opens(a: Frame) -> bool
+    ensures { result ≡ opens_in a }
+{
+    match a {
+        Frame::Short => false,
+        Frame::Empty(h) | Frame::Unreadable(h) | Frame::Command(h, _) => {
+            h.rcon == ReceiveConnState::Initialization && h.scon == SendConnState::Initialization
+        }
     }
 }
 
 // The entry of an answer, given the frames, the place of the client's running reading, what the answer is, and the reading after it.
+#[tactic(auto, unfolding(crate::specs::Marks::noted_of))]
 fn entry_of(
     b: Book,
     e: Exercise,
     q: Frame,
     request: &[u8],
     a: Frame,
-    own: usize,
+    own: Option<usize>,
     p: Piece,
     r: Reading,
 ) -> Noted
     ensures { result ≡ noted_of b e q request.now a own p r }
 {
-    let row = b.readings;
-    let marks = b.marks;
-    let was = rows::reading_at(row, own);
-    let opened = (a.rcon == 1) & (a.scon == 1);
+    let was = rows::reading_at(b.readings, own);
     let event = piece_event(e, was.running, r, p);
-    let book = Book {
-        marks: after_answered(marks, e, opened, asks(e, q, request), p, event),
-        readings: rows::with_reading(row, rows::place_for(row, own), r),
-    };
+    let asked = asks(e, q, request);
+    let place = rows::place_for(b.readings, own);
     Noted {
         piece: p,
         reading: r,
-        event: event,
-        book: book,
+        event,
+        book: Book {
+            marks: after_answered(b.marks, e, opens(a), asked, p, event),
+            readings: rows::with_reading(b.readings, place, r),
+        },
     }
 }
 
@@ -393,9 +357,8 @@ pub fn answered(b: Book, e: Exercise, client: SdoClientInfo, request: &[u8], ans
     let q = frame::read(request);
     let a = frame::read(answer);
     let p = reading::piece_of(q, a, answer);
-    let row = b.readings;
-    let own = rows::own_place(row, client);
-    let was = rows::reading_at(row, own);
+    let own = rows::own_place(b.readings, client);
+    let was = rows::reading_at(b.readings, own);
     let r = reading::next_reading(was, client, p, q, request, a, answer);
     entry_of(b, e, q, request, a, own, p, r)
 }
@@ -405,10 +368,8 @@ pub fn refused(b: Book, e: Exercise, request: &[u8], number: u8) -> Book
     ensures { result ≡ refused_book b e request.now number }
 {
     let asked = asks(e, frame::read(request), request);
-    let marks = b.marks;
-    let row = b.readings;
     Book {
-        marks: after_refused(marks, e, asked, number),
-        readings: row,
+        marks: after_refused(b.marks, e, asked, number),
+        ..b
     }
 }

@@ -3,7 +3,8 @@ use Prim.Native.Nat.{ℕ, ◌-◌}
 use mathlib.Core.Path.{◌≡◌, refl, sym, ap, ◌∙◌}
 use mathlib.Core.Bool.{true}
 use mathlib.Core.List.{List, [], ◌∷◌, ◌++◌}
-use Rattle.picks.specs.Pick.{pick, fold, every}
+use Rattle.std.specs.Prelude.{fold}
+use Rattle.picks.specs.Pick.{pick, every}
 use Rattle.picks.proofs.Keep.{not_both, left, right}
 use Rattle.reading.specs.declared.Reading.{Reading}
 use Rattle.reading.specs.declared.Piece.{Piece}
@@ -12,16 +13,14 @@ use Rattle.reading.specs.Reading.{REGISTER, crc_of, crc_bits, crc_bit, crc_byte,
 
 -- the check value of CRC-32: that of the nine digits 1 to 9
 pub crc_check : crc_of (49 ∷ 50 ∷ 51 ∷ 52 ∷ 53 ∷ 54 ∷ 55 ∷ 56 ∷ 57 ∷ []) ≡ 0xCBF43926
-unfolding fold crc_bits crc_bit pick
+unfolding crc_bits crc_bit pick
 crc_check = refl
 
 fold_append : {S A : Type 0} (f : S → A → S) (s : S) (xs ys : List A) → fold f (fold f s xs) ys ≡ fold f s (xs ++ ys)
-unfolding fold
 fold_append f s [] ys = refl
 fold_append f s (x ∷ xs) ys = fold_append f (f s x) xs ys
 
 register_after : (r : Reading) (p : Piece) (bytes : List ℕ) → is_between p ≡ true → (reading_after r p bytes).register ≡ fold crc_byte r.register (bytes_of p bytes)
-unfolding fold
 register_after r Other bytes b = refl
 register_after r Next bytes b = refl
 register_after r Again bytes b = refl
@@ -31,7 +30,7 @@ register_after r Last bytes b = not_both refl (sym b)
 register_after r (Abort code) bytes b = not_both refl (sym b)
 
 register_over : (r : Reading) (parts : List Part) → every (λ p. is_between p.piece) parts ≡ true → (reading_over r parts).register ≡ fold crc_byte r.register (joined parts)
-unfolding fold every joined
+unfolding every joined
 register_over r [] b = refl
 register_over r (p ∷ parts) b =
     let here = left (is_between p.piece) (every (λ q. is_between q.piece) parts) b in

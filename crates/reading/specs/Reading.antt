@@ -1,11 +1,20 @@
 -- What a client is sent of an object, as far as the frames that answer it say.
-use Rattle.std.specs.Prelude.{ℕ, zero, suc, ◌+◌, ◌-◌, ◌/◌, ◌%◌, min, Bool, true, false, ◌&&◌, not, List, [], ◌∷◌, ◌++◌, length, get_or, take, drop, eqb, ltb}
+use Rattle.std.specs.Prelude.{ℕ, zero, suc, ◌+◌, ◌-◌, ◌/◌, ◌%◌, min, Bool, true, false, ◌&&◌, not, List, [], ◌∷◌, ◌++◌, length, get_or, take, drop, eqb, ltb, fold}
 use Rattle.std.specs.Int.Bits.{bit_xor}
-use Rattle.picks.specs.Pick.{pick, fold}
+use Rattle.picks.specs.Pick.{pick}
 use Rattle.octets.specs.Octets.{le}
 use Rattle.protocol.specs.declared.SdoClientInfo.{SdoClientInfo}
 use Rattle.protocol.specs.declared.SdoClientInfo.TheVariants.{Asnd}
+use Rattle.protocol.specs.declared.SequenceLayerHeader.{SequenceLayerHeader}
+use Rattle.protocol.specs.declared.CommandLayerHeader.{CommandLayerHeader}
+use Rattle.protocol.specs.declared.SdoCommand.{SdoCommand}
+use Rattle.protocol.specs.declared.Segmentation.{Segmentation}
+use Rattle.protocol.specs.declared.Segmentation.TheVariants.{Expedited, Initiate, Segment, Complete}
+use Rattle.protocol.specs.SequenceHeader.{receive_mark, send_mark}
+use Rattle.protocol.specs.Command.{segmentation_number, id_byte, total_number}
 use Rattle.reading.specs.declared.frame.Frame.{Frame}
+use Rattle.reading.specs.declared.frame.Frame.TheVariants.{Short, Empty, Unreadable, Command}
+use Rattle.reading.specs.Frame.{payload_in}
 use Rattle.reading.specs.declared.Reading.{Reading}
 use Rattle.reading.specs.declared.Piece.{Piece}
 use Rattle.reading.specs.declared.Piece.TheVariants.{Other, Whole, First, Next, Last, Again, Abort}
@@ -30,31 +39,39 @@ crc_byte r b = crc_bits 4 (crc_bits 4 (bit_xor r b))
 abbrev pub crc_of : List ℕ → ℕ
 crc_of bytes = REGISTER - fold crc_byte REGISTER bytes
 
--- a frame's payload, as a part of its bytes
-abbrev pub payload_in : Frame → List ℕ → List ℕ
-payload_in f bytes = take f.size (drop f.start bytes)
-
 -- a request that asks for an object: a command ReadByIndex that names one, and not behind an error response
 abbrev pub is_read : Frame → Bool
-is_read f = eqb f.kind 2 && eqb f.id 2 && ltb 3 f.size && not f.aborted && not (eqb f.rcon 3)
+is_read Short = false
+is_read (Empty h) = false
+is_read (Unreadable h) = false
+is_read (Command h c) =
+    eqb (id_byte c.header.id) 2 && ltb 3 c.header.size && not c.header.aborted && not (eqb (receive_mark h.rcon) 3)
+
+abbrev pub segment_piece : Segmentation → ℕ → Piece
+segment_piece Expedited total = Other
+segment_piece Initiate total = First total
+segment_piece Segment total = Next
+segment_piece Complete total = Last
 
 -- a piece under send mark 3 was sent before
-unfoldable pub upload_piece : Frame → Piece
-upload_piece a =
-    pick (eqb a.scon 3) Again
-    (pick (eqb a.segmentation 1) (First a.total)
-    (pick (eqb a.segmentation 2) Next
-    (pick (eqb a.segmentation 3) Last Other)))
+unfoldable pub upload_piece : SequenceLayerHeader → SdoCommand → Piece
+upload_piece h c =
+    pick (eqb (send_mark h.scon) 3) Again (segment_piece c.header.segmentation (total_number c.total))
 
-unfoldable pub short_piece : Frame → Frame → Piece
-short_piece q a = pick (is_read q && eqb a.id 0 && eqb a.segmentation 0 && a.response) Whole Other
+unfoldable pub short_piece : Frame → CommandLayerHeader → Piece
+short_piece q c =
+    pick (is_read q && eqb (id_byte c.id) 0 && eqb (segmentation_number c.segmentation) 0 && c.response) Whole Other
 
-unfoldable pub piece_of : Frame → Frame → List ℕ → Piece
-piece_of q a bytes =
-    pick (eqb a.kind 2)
-    (pick a.aborted (Abort (le (take 4 (drop 0 (payload_in a bytes)))))
-    (pick (eqb a.id 2) (upload_piece a) (short_piece q a)))
-    Other
+unfoldable pub command_piece : Frame → SequenceLayerHeader → SdoCommand → List ℕ → Piece
+command_piece q h c payload =
+    pick c.header.aborted (Abort (le (take 4 (drop 0 payload))))
+    (pick (eqb (id_byte c.header.id) 2) (upload_piece h c) (short_piece q c.header))
+
+abbrev pub piece_of : Frame → Frame → List ℕ → Piece
+piece_of q Short bytes = Other
+piece_of q (Empty h) bytes = Other
+piece_of q (Unreadable h) bytes = Other
+piece_of q (Command h c) bytes = command_piece q h c (payload_in (Command h c) bytes)
 
 abbrev pub named : SdoClientInfo → List ℕ → Reading
 named client payload =
@@ -75,15 +92,14 @@ about_of r client (Abort code) payload = r
 
 abbrev pub begun : Reading → Bool → ℕ → List ℕ → Reading
 begun r running total bytes =
-    record { running = running; client = r.client; index = r.index; sub = r.sub; total = total; sent = min (0 + length bytes) REGISTER; register = fold crc_byte REGISTER bytes }
+    record r { running = running; total = total; sent = min (0 + length bytes) REGISTER; register = fold crc_byte REGISTER bytes }
 
 abbrev pub further : Reading → Bool → List ℕ → Reading
 further r running bytes =
-    record { running = running; client = r.client; index = r.index; sub = r.sub; total = r.total; sent = min (r.sent + length bytes) REGISTER; register = fold crc_byte r.register bytes }
+    record r { running = running; sent = min (r.sent + length bytes) REGISTER; register = fold crc_byte r.register bytes }
 
 abbrev pub over : Reading → Reading
-over r =
-    record { running = false; client = r.client; index = r.index; sub = r.sub; total = r.total; sent = r.sent; register = r.register }
+over r = record r { running = false }
 
 -- a whole value and a first piece begin a reading, the later ones go on, and a piece sent before adds nothing
 abbrev pub reading_after : Reading → Piece → List ℕ → Reading

@@ -1,7 +1,5 @@
 -- The readings of the clients that read at one time.
-use Rattle.std.specs.Prelude.{ℕ, Bool, not, ◌&&◌, ltb}
-use mathlib.Core.List.{List, replicate}
-use Rattle.picks.specs.Pick.{pick, first}
+use Rattle.std.specs.Prelude.{ℕ, Bool, not, ◌&&◌, Option, Some, None, List, position, get_or, set, replicate}
 use Rattle.protocol.specs.declared.SdoClientInfo.{SdoClientInfo}
 use Rattle.protocol.specs.ConnectionTable.{same_client}
 use Rattle.reading.specs.declared.Reading.{Reading}
@@ -14,8 +12,19 @@ abbrev pub is_free : Reading → Bool
 is_free r = not r.running
 
 -- a client's own place, or a free one
-unfoldable pub place_for : List Reading → ℕ → ℕ
-place_for rows own = pick (ltb own 8) own (first is_free rows)
+abbrev pub place_for : List Reading → Option ℕ → Option ℕ
+place_for rows None = position is_free rows
+place_for rows (Some own) = Some own
+
+-- the reading at a place: without one, that of nobody
+abbrev pub reading_at : List Reading → Option ℕ → Reading
+reading_at rows None = nobody
+reading_at rows (Some i) = get_or rows i nobody
+
+-- the row with another reading at a place; without one it stays
+abbrev pub with_reading : List Reading → Option ℕ → Reading → List Reading
+with_reading rows None r = rows
+with_reading rows (Some i) r = set rows i r
 
 abbrev pub no_readings : List Reading
 no_readings = replicate 8 nobody

@@ -4,14 +4,17 @@
 pub mod frame;
 pub mod rows;
 
-ghost use Rattle.std.specs.Prelude.{◌≡◌, ◌+◌, ◌-◌, min, length};
-ghost use Rattle.picks.specs.Pick.{fold};
-ghost use Rattle.reading.specs.Reading.{REGISTER as FIRST, crc_bit, crc_bits, crc_byte, is_read, named, nobody, upload_piece, short_piece, piece_of, about_of, begun, further, over, reading_after, payload_in};
+ghost use Rattle.std.specs.Prelude.{◌≡◌, ◌+◌, ◌-◌, min, length, fold};
+ghost use Rattle.reading.specs.Frame.{payload_in};
+ghost use Rattle.reading.specs.Reading.{REGISTER as FIRST, crc_bit, crc_bits, crc_byte, is_read, named, nobody, upload_piece, short_piece, piece_of, about_of, begun, further, reading_after};
 
 use frame::Frame;
-use protocol::SdoClientInfo;
+use protocol::{
+    CommandId, CommandLayerHeader, ReceiveConnState, SdoClientInfo, SdoCommand, Segmentation,
+    SendConnState, SequenceLayerHeader,
+};
 
-// What an answer is to a reading: no part of it, the whole value, its first piece with the size in Initiate, a later one, the last one, a piece sent before, or an abort with its code.
+// What an answer is to a reading (an answer that is no part of it has words on the sheet too, so it is a variant and no None): no part of it, the whole value, its first piece with the size in Initiate, a later one, the last one, a piece sent before, or an abort with its code.
 #[derive(Clone, Copy)]
 pub enum Piece {
     Other,
@@ -23,7 +26,7 @@ pub enum Piece {
     Abort(u32),
 }
 
-// A client's reading of an object: whether it is running, the size in Initiate, how many bytes were sent, and the CRC-32's register after them.
+// A client's reading of an object (one that is over keeps its numbers for the sheet, so that `running` is no Option round them): whether it is running, the size in Initiate, how many bytes were sent, and the CRC-32's register after them.
 #[derive(Clone, Copy)]
 pub struct Reading {
     pub running: bool,
@@ -39,6 +42,7 @@ pub struct Reading {
 const REGISTER: u32 = 0xFFFFFFFF;
 
 // The register after one bit.
+#[tactic(auto, unfolding(crate::specs::Reading::crc_bit, picks::specs::Pick::pick))]
 fn crc_bit(r: u32) -> u32
     ensures { result ≡ crc_bit r }
 {
@@ -49,6 +53,7 @@ fn crc_bit(r: u32) -> u32
 }
 
 // The register after four bits.
+#[tactic(auto, unfolding(crate::specs::Reading::crc_bits))]
 fn crc_half(r: u32) -> u32
     ensures { result ≡ crc_bits 4 r }
 {
@@ -66,13 +71,7 @@ fn crc_byte(r: u32, b: u8) -> u32
 fn crc_over(r: u32, bytes: &[u8]) -> u32
     ensures { result ≡ fold crc_byte r bytes.now }
 {
-    let mut s = r;
-    let mut i = 0;
-    while i < bytes.len() {
-        s = crc_byte(s, bytes[i]);
-        i += 1;
-    }
-    s
+    bytes.iter().fold(r, |s, b| crc_byte(s, *b))
 }
 
 // The CRC-32 of the bytes that were sent.
@@ -86,60 +85,69 @@ pub fn crc_of(r: Reading) -> u32
 fn more(sent: u32, bytes: &[u8]) -> u32
     ensures { result ≡ min (sent + length bytes.now) FIRST }
 {
-    let room = (REGISTER - sent) as usize;
-    if room < bytes.len() {
-        return REGISTER;
-    }
-    sent + (bytes.len() as u32)
+    sent.saturating_add(u32::try_from(bytes.len()).unwrap_or(u32::MAX))
 }
 
 // Whether a request asks for an object. On an error response no command is looked at.
 pub fn is_read(f: Frame) -> bool
     ensures { result ≡ is_read f }
 {
-    (f.kind == frame::COMMAND) & (f.id == 2) & (3 < f.size) & !f.aborted & (f.rcon != 3)
+    let Frame::Command(header, command) = f else {
+        return false;
+    };
+    let c = command.header;
+    c.id == CommandId::ReadByIndex
+        && 3 < c.size
+        && !c.aborted
+        && header.rcon != ReceiveConnState::ErrorResponse
 }
 
 // What piece an upload's answer is.
-fn upload_piece(a: Frame) -> Piece
-    ensures { result ≡ upload_piece a }
+#[tactic(auto, unfolding(crate::specs::Reading::upload_piece, picks::specs::Pick::pick))]
+fn upload_piece(h: SequenceLayerHeader, c: SdoCommand) -> Piece
+    ensures { result ≡ upload_piece h c }
 {
-    if a.scon == 3 {
+    if h.scon == SendConnState::ConnectionValidAckRequest {
         return Piece::Again;
     }
-    let kind = a.segmentation;
-    match kind {
-        1 => Piece::First(a.total),
-        2 => Piece::Next,
-        3 => Piece::Last,
-        _ => Piece::Other,
+    match c.header.segmentation {
+        Segmentation::Expedited => Piece::Other,
+        Segmentation::Initiate => Piece::First(c.total.unwrap_or(0)),
+        Segmentation::Segment => Piece::Next,
+        Segmentation::Complete => Piece::Last,
     }
 }
 
 // What an answer that is no upload's is: the whole value where a read asked for it.
-fn short_piece(q: Frame, a: Frame) -> Piece
-    ensures { result ≡ short_piece q a }
+#[tactic(auto, unfolding(crate::specs::Reading::short_piece, picks::specs::Pick::pick))]
+fn short_piece(q: Frame, c: CommandLayerHeader) -> Piece
+    ensures { result ≡ short_piece q c }
 {
-    if is_read(q) & (a.id == 0) & (a.segmentation == 0) & a.response {
+    if is_read(q)
+        && c.id == CommandId::Nil
+        && c.segmentation == Segmentation::Expedited
+        && c.response
+    {
         return Piece::Whole;
     }
     Piece::Other
 }
 
 // What an answer is to a request.
+#[tactic(auto, unfolding(crate::specs::Reading::command_piece, picks::specs::Pick::pick))]
 pub fn piece_of(q: Frame, a: Frame, bytes: &[u8]) -> Piece
     ensures { result ≡ piece_of q a bytes.now }
 {
-    if a.kind != frame::COMMAND {
+    let Frame::Command(header, command) = a else {
         return Piece::Other;
+    };
+    if command.header.aborted {
+        return Piece::Abort(octets::number_at(frame::payload(a, bytes), 0));
     }
-    if a.aborted {
-        return Piece::Abort(octets::u32_at(frame::payload(a, bytes), 0));
+    if command.header.id == CommandId::ReadByIndex {
+        return upload_piece(header, command);
     }
-    if a.id == 2 {
-        return upload_piece(a);
-    }
-    short_piece(q, a)
+    short_piece(q, command.header)
 }
 
 // A reading of the object that a read's payload names, of which nothing is sent yet.
@@ -148,8 +156,8 @@ fn reading_of(client: SdoClientInfo, payload: &[u8]) -> Reading
 {
     Reading {
         running: false,
-        client: client,
-        index: octets::u16_at(payload, 0),
+        client,
+        index: octets::number_at(payload, 0),
         sub: octets::byte_at(payload, 2),
         total: 0,
         sent: 0,
@@ -177,13 +185,8 @@ fn about(r: Reading, client: SdoClientInfo, p: Piece, payload: &[u8]) -> Reading
     ensures { result ≡ about_of r client p payload.now }
 {
     match p {
-        Piece::Other => r,
-        Piece::Whole => reading_of(client, payload),
-        Piece::First(total) => reading_of(client, payload),
-        Piece::Next => r,
-        Piece::Last => r,
-        Piece::Again => r,
-        Piece::Abort(code) => r,
+        Piece::Whole | Piece::First(_) => reading_of(client, payload),
+        Piece::Other | Piece::Next | Piece::Last | Piece::Again | Piece::Abort(_) => r,
     }
 }
 
@@ -191,15 +194,12 @@ fn about(r: Reading, client: SdoClientInfo, p: Piece, payload: &[u8]) -> Reading
 fn begins(r: Reading, running: bool, total: u32, bytes: &[u8]) -> Reading
     ensures { result ≡ begun r running total bytes.now }
 {
-    let client = r.client;
     Reading {
-        running: running,
-        client: client,
-        index: r.index,
-        sub: r.sub,
-        total: total,
+        running,
+        total,
         sent: more(0, bytes),
         register: crc_over(REGISTER, bytes),
+        ..r
     }
 }
 
@@ -207,24 +207,12 @@ fn begins(r: Reading, running: bool, total: u32, bytes: &[u8]) -> Reading
 fn goes_on(r: Reading, running: bool, bytes: &[u8]) -> Reading
     ensures { result ≡ further r running bytes.now }
 {
-    let client = r.client;
     Reading {
-        running: running,
-        client: client,
-        index: r.index,
-        sub: r.sub,
-        total: r.total,
+        running,
         sent: more(r.sent, bytes),
         register: crc_over(r.register, bytes),
+        ..r
     }
-}
-
-// A reading that is over.
-fn ended(mut r: Reading) -> Reading
-    ensures { result ≡ over r }
-{
-    r.running = false;
-    r
 }
 
 // The reading after an answer: a piece sent before adds nothing.
@@ -232,13 +220,15 @@ fn after_answer(r: Reading, p: Piece, bytes: &[u8]) -> Reading
     ensures { result ≡ reading_after r p bytes.now }
 {
     match p {
-        Piece::Other => r,
+        Piece::Other | Piece::Again => r,
         Piece::Whole => begins(r, false, more(0, bytes), bytes),
         Piece::First(total) => begins(r, true, total, bytes),
         Piece::Next => goes_on(r, r.running, bytes),
         Piece::Last => goes_on(r, false, bytes),
-        Piece::Again => r,
-        Piece::Abort(code) => ended(r),
+        Piece::Abort(_) => Reading {
+            running: false,
+            ..r
+        },
     }
 }
 

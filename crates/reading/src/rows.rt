@@ -1,8 +1,6 @@
 // The readings of the clients that read at one time, in a row of eight: no more can have a connection.
-ghost use Rattle.std.specs.Prelude.{◌≡◌, get_or, set};
-ghost use Rattle.picks.specs.Pick.{first};
-ghost use Rattle.reading.specs.Reading.{nobody};
-ghost use Rattle.reading.specs.Rows.{is_own, is_free, place_for, no_readings};
+ghost use Rattle.std.specs.Prelude.{◌≡◌, position};
+ghost use Rattle.reading.specs.Rows.{is_own, is_free, place_for, reading_at, with_reading, no_readings};
 
 use crate::Reading;
 use protocol::SdoClientInfo;
@@ -11,75 +9,47 @@ use protocol::SdoClientInfo;
 fn is_own(r: Reading, client: SdoClientInfo) -> bool
     ensures { result ≡ is_own client r }
 {
-    let own = r.client;
-    r.running & connection::same_client(own, client)
+    r.running && r.client == client
 }
 
-// Whether no reading runs at a place.
-fn is_free(r: Reading) -> bool
-    ensures { result ≡ is_free r }
+// The place of a client's running reading.
+pub fn own_place(rows: [Reading; 8], client: SdoClientInfo) -> Option<usize>
+    ensures { result ≡ position (is_own client) rows }
 {
-    !r.running
+    rows.iter().position(|r| is_own(*r, client))
 }
 
-// The place of a client's running reading: 8 where it has none.
-pub fn own_place(rows: [Reading; 8], client: SdoClientInfo) -> usize
-    ensures { result ≡ first (is_own client) rows }
+// The first place at which no reading runs.
+fn free_place(rows: [Reading; 8]) -> Option<usize>
+    ensures { result ≡ position is_free rows }
 {
-    let mut i = 0;
-    while i < 8 {
-        let r = rows[i];
-        if is_own(r, client) {
-            return i;
-        }
-        i += 1;
-    }
-    i
-}
-
-// The first place at which no reading runs: 8 where there is none.
-fn free_place(rows: [Reading; 8]) -> usize
-    ensures { result ≡ first is_free rows }
-{
-    let mut i = 0;
-    while i < 8 {
-        let r = rows[i];
-        if is_free(r) {
-            return i;
-        }
-        i += 1;
-    }
-    i
+    rows.iter().position(|r| !r.running)
 }
 
 // The place for a client's reading: its own, or a free one.
-pub fn place_for(rows: [Reading; 8], own: usize) -> usize
+pub fn place_for(rows: [Reading; 8], own: Option<usize>) -> Option<usize>
     ensures { result ≡ place_for rows own }
 {
-    if own < 8 {
-        return own;
-    }
-    free_place(rows)
+    own.or_else(|| free_place(rows))
 }
 
-// The reading at a place: that of nobody at 8.
-pub fn reading_at(rows: [Reading; 8], i: usize) -> Reading
-    ensures { result ≡ get_or rows i nobody }
+// The reading at a place: without one, that of nobody.
+pub fn reading_at(rows: [Reading; 8], place: Option<usize>) -> Reading
+    ensures { result ≡ reading_at rows place }
 {
-    if i < 8 {
-        return rows[i];
-    }
-    crate::no_reading()
+    place
+        .and_then(|i| rows.get(i).copied())
+        .unwrap_or(crate::no_reading())
 }
 
-// The row with another reading at a place; past the end it stays.
-pub fn with_reading(rows: [Reading; 8], i: usize, r: Reading) -> [Reading; 8]
-    ensures { result ≡ set rows i r }
+// The row with another reading at a place; without one it stays.
+pub fn with_reading(mut rows: [Reading; 8], place: Option<usize>, r: Reading) -> [Reading; 8]
+    ensures { result ≡ with_reading rows place r }
 {
-    if i < 8 {
-        let mut after = rows;
-        after[i] = r;
-        return after;
+    if let Some(i) = place
+        && i < rows.len()
+    {
+        rows[i] = r;
     }
     rows
 }

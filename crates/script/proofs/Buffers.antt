@@ -1,4 +1,4 @@
--- Bytes in a buffer: its front, the area's filling, what a call finds.
+-- Bytes in a buffer: its front, the area's filling, the area that a call finds.
 use Prim.Native.Nat.{ℕ, zero, suc, ◌+◌, ◌*◌, ◌/◌, ◌%◌, ◌<◌, min}
 use native.Mathlib.Omega.{arith}
 use native.Mathlib.Numerals.{add-one}
@@ -9,7 +9,7 @@ use lib.Seq.{append_snoc, drop-append_seam, drop-cons, set_at}
 use Rattle.octets.specs.Octets.{splice}
 use Rattle.octets.proofs.Splice.{splice_fits}
 use Rattle.items.specs.Items.{area_bytes}
-use Rattle.script.specs.Playing.{lent_area, blank}
+use Rattle.script.specs.Playing.{lent_area}
 
 -- what is behind a front that is cut to the buffer's length
 pub drop_clamped : (n : ℕ) (xs : List ℕ) → drop (min n (length xs)) xs ≡ drop n xs
@@ -31,14 +31,7 @@ area_more b i xs h =
     let v = (b + 7 * i + i / 256) % 256 in
     rw (drop-cons xs i 0 h, append_snoc (area_bytes b i) v (drop (suc i) xs)) (set_at (area_bytes b i) (get_or xs i 0) (drop (suc i) xs) v i (length_area_bytes b i))
 
--- a call's answer buffer, and the area that it finds
-pub blank_laid : (xs : List ℕ) → length xs ≡ 1600 → splice 0 (replicate {A = ℕ} 1600 165) xs ≡ blank
-unfolding blank
-blank_laid xs h =
-    let r : List ℕ = replicate 1600 165 in
-    let l : length r ≡ 1600 = length-replicate {A = ℕ} 1600 165 in
-    splice_fits 0 r xs (omega (arith, l)) ∙ ap (λ (ys : List ℕ). r ++ ys) (drop_of_length-le xs {i = 0 + length r} (omega (arith, l))) ∙ append-nil r
-
+-- the area that a call finds
 pub area_laid : (xs : List ℕ) → length xs ≡ 65600 → splice 65536 (replicate {A = ℕ} 64 0) xs ≡ lent_area xs
 unfolding lent_area
 area_laid xs h =

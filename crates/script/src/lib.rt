@@ -3,10 +3,12 @@
 
 pub mod told;
 
-ghost use Rattle.std.specs.Prelude.{◌≡◌, ◌≤◌, min, length};
-ghost use Rattle.script.specs.Playing.{at_start, left, lends, unknown, calls, image_lent, image_stored, table_lent, filled, lengths_lent, lent_area, blank, request_on, tick_on, query_on, request_played, play_of};
+ghost use Rattle.std.specs.Prelude.{◌≡◌, ◌≤◌, length};
+ghost use Rattle.script.specs.Outcomes.{said};
+ghost use Rattle.script.specs.Playing.{at_start, did, left, lends, unknown, calls, image_lent, image_stored, table_lent, filled, lengths_lent, lent_area, blank, request_on, tick_on, query_on, request_played, play_of};
 
-use protocol::Connection;
+use items::{Item, UnknownItem};
+use protocol::{Connection, Refusal};
 use told::Told;
 
 // The buffers: an image, the answer, and the area as far as it can be lent.
@@ -37,76 +39,80 @@ pub struct Lent {
     pub table: [Connection; 8],
 }
 
-// What an item leaves: whether it is one that is known, whether it is a call, what the call says, and what is lent after it.
+// What an item is: one that there is not, one that lends something, or a call, with what it says.
+#[derive(Clone, Copy)]
+pub enum Done {
+    Unknown,
+    Lends,
+    Calls(Told),
+}
+
+// What an item is, and what is lent after it.
 #[derive(Clone, Copy)]
 pub struct Played {
-    pub known: bool,
-    pub call: bool,
-    pub told: Told,
+    pub done: Done,
     pub lent: Lent,
 }
 
-// An item that lends something.
-fn lends(lent: Lent) -> Played
-    ensures { result ≡ lends lent }
+// A call, with the table that it leaves.
+fn calls(told: Told, lent: Lent, table: [Connection; 8]) -> Played
+    ensures { (did result ≡ calls (said told) lent table) × (length table ≡ 8) }
 {
     Played {
-        known: true,
-        call: false,
-        told: told::only(0),
-        lent: lent,
+        done: Done::Calls(told),
+        lent: Lent { table, ..lent },
     }
 }
 
 // An item that there is not.
 fn unknown(lent: Lent) -> Played
-    ensures { result ≡ unknown lent }
+    ensures { did result ≡ unknown lent }
 {
     Played {
-        known: false,
-        call: false,
-        told: told::only(0),
-        lent: lent,
+        done: Done::Unknown,
+        lent,
     }
 }
 
-// A call, with the table that it leaves.
-fn calls(told: Told, mut lent: Lent, table: [Connection; 8]) -> Played
-    ensures { (result ≡ calls told lent table) × (length table ≡ 8) }
+// An item that lends something.
+fn lends(lent: Lent) -> Played
+    ensures { did result ≡ lends lent }
 {
-    lent.table = table;
     Played {
-        known: true,
-        call: true,
-        told: told,
-        lent: lent,
+        done: Done::Lends,
+        lent,
     }
 }
 
 // Item 4: an image is lent.
-fn lend_image(item: &[u8], mut lent: Lent, image: &mut [u8; IMAGE]) -> Played
-    ensures { (result ≡ image_lent item.now lent) × (image.new ≡ image_stored item.now image.old) }
+#[tactic(auto, unfolding(crate::specs::Playing::image_lent, crate::specs::Playing::image_stored, picks::specs::Pick::pick))]
+fn lend_image(item: &[u8], lent: Lent, image: &mut [u8; IMAGE]) -> Played
+    ensures { (did result ≡ image_lent item.now lent) × (image.new ≡ image_stored item.now image.old) }
 {
-    let n = octets::u32_at(item, 1);
+    let n: u32 = octets::number_at(item, 1);
     if 131072 < n {
         return unknown(lent);
     }
     octets::copy_at(image, 0, octets::part(item, 5, n as usize));
-    lent.image = n as usize;
-    lends(lent)
+    lends(Lent {
+        image: n as usize,
+        ..lent
+    })
 }
 
 // Item 5: a table is lent.
-fn lend_table(item: &[u8], mut lent: Lent) -> Played
-    ensures { result ≡ table_lent item.now lent }
+#[tactic(auto, unfolding(crate::specs::Playing::table_lent, picks::specs::Pick::pick))]
+fn lend_table(item: &[u8], lent: Lent) -> Played
+    ensures { did result ≡ table_lent item.now lent }
 {
     let s = octets::rest(item, 1);
-    if record::is_table(s) {
-        let table = record::table_of(s);
-        lent.table = table;
-        return lends(lent);
+    if !record::is_table(s) {
+        return unknown(lent);
     }
-    unknown(lent)
+    lends(Lent {
+        table: record::table_of(s),
+        ..lent
+    })
 }
 
 // Item 6: area byte i becomes (b + 7 i + i / 256) mod 256.
@@ -115,42 +121,37 @@ fn fill_area(b: u8, area: &mut [u8])
     ensures { area.new ≡ filled b area.old }
 {
     let first = b as usize;
-    let mut i = 0;
-    while i < AREA {
+    for i in 0..AREA {
         area[i] = ((first + 7 * i + i / 256) % 256) as u8;
-        i += 1;
     }
 }
 
 // Item 7: how much is lent.
-fn lend_lengths(item: &[u8], mut lent: Lent) -> Played
-    ensures { result ≡ lengths_lent item.now lent }
+#[tactic(auto, unfolding(crate::specs::Playing::lengths_lent, picks::specs::Pick::pick))]
+fn lend_lengths(item: &[u8], lent: Lent) -> Played
+    ensures { did result ≡ lengths_lent item.now lent }
 {
-    let answer = octets::u32_at(item, 1);
-    let area = octets::u32_at(item, 5);
+    let answer: u32 = octets::number_at(item, 1);
+    let area: u32 = octets::number_at(item, 5);
     let records = octets::byte_at(item, 9);
     let fit = (answer <= 1600) & (area <= 65600) & (records <= LENT_RECORDS);
-    if fit {
-        lent.answer = answer as usize;
-        lent.area = area as usize;
-        lent.records = records;
-        return lends(lent);
+    if !fit {
+        return unknown(lent);
     }
-    unknown(lent)
-}
-
-// The lesser of two numbers.
-fn least(a: usize, b: usize) -> usize
-    ensures { result ≡ min a b }
-{
-    if a <= b { a } else { b }
+    lends(Lent {
+        answer: answer as usize,
+        area: area as usize,
+        records,
+        ..lent
+    })
 }
 
 // A call finds the answer buffer filled, and zeros past the area's own length.
+#[tactic(auto, unfolding(crate::specs::Playing::blank), using(crate::proofs::Buffers::area_laid))]
 fn ready(area: &mut [u8; LENT_AREA], answer: &mut [u8; ANSWER])
     ensures { (area.new ≡ lent_area area.old) × (answer.new ≡ blank) }
 {
-    octets::copy_at(answer, 0, &[FILL; ANSWER]);
+    *answer = [FILL; ANSWER];
     octets::copy_at(area, AREA, &[0; 64]);
 }
 
@@ -169,30 +170,28 @@ fn call_request(
     image: &mut [u8],
     answer: &mut [u8],
 ) -> Played
-    ensures { left result area.new image.new answer.new ≡ request_on item.now lent area.old image.old answer.old }
+    ensures { left (did result) area.new image.new answer.new ≡ request_on item.now lent area.old image.old answer.old }
 {
     let row = lent.table;
     if lent.records != records_of(row) {
-        return calls(told::only(1), lent, row);
+        return calls(Told::Request(Err(Refusal::Lent)), lent, row);
     }
     let client = items::client_of(item);
     let clock = items::clock_of(item);
     let request = items::request_of(item);
-    let a = least(lent.area, area.len());
-    let b = least(lent.image, image.len());
-    let c = least(lent.answer, answer.len());
+    let a = lent.area.min(area.len());
+    let b = lent.image.min(image.len());
+    let c = lent.answer.min(answer.len());
     let done = owned::handle_request(
         row,
-        &mut area[0..a],
-        &mut image[0..b],
-        &mut answer[0..c],
+        &mut area[..a],
+        &mut image[..b],
+        &mut answer[..c],
         client,
         clock,
         request,
     );
-    let outcome = done.outcome;
-    let table = done.table;
-    calls(told::of_request(outcome), lent, table)
+    calls(Told::Request(done.outcome), lent, done.table)
 }
 
 // A tick on what is lent of the buffers.
@@ -203,35 +202,33 @@ fn call_tick<'a>(
     image: &'a [u8],
     answer: &mut [u8],
 ) -> Played
-    ensures { left result area.now image.now answer.new ≡ tick_on item.now lent area.now image.now answer.old }
+    ensures { left (did result) area.now image.now answer.new ≡ tick_on item.now lent area.now image.now answer.old }
 {
     let row = lent.table;
     if lent.records != records_of(row) {
-        return calls(told::only(1), lent, row);
+        return calls(Told::Tick(Err(Refusal::Lent)), lent, row);
     }
     let clock = items::clock_of(item);
-    let c = least(lent.answer, answer.len());
+    let c = lent.answer.min(answer.len());
     let done = owned::tick(
         row,
         octets::part(area, 0, lent.area),
         octets::part(image, 0, lent.image),
-        &mut answer[0..c],
+        &mut answer[..c],
         clock,
     );
-    let outcome = done.outcome;
-    let table = done.table;
-    calls(told::of_tick(outcome), lent, table)
+    calls(Told::Tick(done.outcome), lent, done.table)
 }
 
 // A deadline query on the table that is lent.
 fn call_query(lent: Lent) -> Played
-    ensures { result ≡ query_on lent }
+    ensures { did result ≡ query_on lent }
 {
     let row = lent.table;
     if lent.records != records_of(row) {
-        return calls(told::only(1), lent, row);
+        return calls(Told::Query(Err(Refusal::Lent)), lent, row);
     }
-    calls(told::of_query(owned::next_action_time(row)), lent, row)
+    calls(Told::Query(owned::next_action_time(row)), lent, row)
 }
 
 // Item 1: a request. A client of a kind that there is not is unknown.
@@ -242,7 +239,7 @@ fn play_request(
     image: &mut [u8; IMAGE],
     answer: &mut [u8; ANSWER],
 ) -> Played
-    ensures { left result area.new image.new answer.new ≡ request_played item.now lent area.old image.old answer.old }
+    ensures { left (did result) area.new image.new answer.new ≡ request_played item.now lent area.old image.old answer.old }
 {
     if clients::is_client(octets::rest(item, 1)) {
         ready(area, answer);
@@ -259,7 +256,7 @@ fn play_tick(
     image: &[u8; IMAGE],
     answer: &mut [u8; ANSWER],
 ) -> Played
-    ensures { left result area.new image.now answer.new ≡ tick_on item.now lent (lent_area area.old) image.now blank }
+    ensures { left (did result) area.new image.now answer.new ≡ tick_on item.now lent (lent_area area.old) image.now blank }
 {
     ready(area, answer);
     call_tick(item, lent, area, image, answer)
@@ -267,7 +264,7 @@ fn play_tick(
 
 // Item 3: a deadline query.
 fn play_query(lent: Lent, area: &mut [u8; LENT_AREA], answer: &mut [u8; ANSWER]) -> Played
-    ensures { (result ≡ query_on lent) × (area.new ≡ lent_area area.old) × (answer.new ≡ blank) }
+    ensures { (did result ≡ query_on lent) × (area.new ≡ lent_area area.old) × (answer.new ≡ blank) }
 {
     ready(area, answer);
     call_query(lent)
@@ -281,21 +278,20 @@ pub fn play(
     image: &mut [u8; IMAGE],
     answer: &mut [u8; ANSWER],
 ) -> Played
-    ensures { left result area.new image.new answer.new ≡ play_of item.now lent area.old image.old answer.old }
+    ensures { left (did result) area.new image.new answer.new ≡ play_of item.now lent area.old image.old answer.old }
 {
-    let kind = octets::byte_at(item, 0);
-    match kind {
-        1 => play_request(item, lent, area, image, answer),
-        2 => play_tick(item, lent, area, image, answer),
-        3 => play_query(lent, area, answer),
-        4 => lend_image(item, lent, image),
-        5 => lend_table(item, lent),
-        6 => {
+    match Item::try_from(octets::byte_at(item, 0)) {
+        Ok(Item::Request) => play_request(item, lent, area, image, answer),
+        Ok(Item::Tick) => play_tick(item, lent, area, image, answer),
+        Ok(Item::Query) => play_query(lent, area, answer),
+        Ok(Item::Image) => lend_image(item, lent, image),
+        Ok(Item::Table) => lend_table(item, lent),
+        Ok(Item::Area) => {
             fill_area(octets::byte_at(item, 1), area);
             lends(lent)
         }
-        7 => lend_lengths(item, lent),
-        _ => unknown(lent),
+        Ok(Item::Lengths) => lend_lengths(item, lent),
+        Err(UnknownItem(_)) => unknown(lent),
     }
 }
 

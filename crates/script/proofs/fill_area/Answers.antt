@@ -8,23 +8,17 @@ use native.Mathlib.Omega.{arith}
 use Rattle.script.proofs.fill_area.Goals as goal
 
 pub loop-i-init : goal.loop-i-init
-loop-i-init c = (search rules, search rules, search rules, search rules, search rules, area_none _ _)
+loop-i-init c = (search rules, search rules, search rules, area_none _ _)
 
 pub loop-i-preserved : goal.loop-i-preserved
 loop-i-preserved c =
     let l = c.loop-i in
-    let a = c.args in (
-      search rules,
-      search rules,
-      search rules,
-      search rules,
-      search rules,
-      rw (l.invariant.5, add-one l.i) (area_more a.b l.i a.area.now (omega arith)),
-    )
+    let a = c.args in
+    (search rules, search rules, search rules, rw (l.invariant.3, add-one l.i) (area_more a.b l.i a.area.now (omega arith)))
 
 pub returns : goal.returns
 unfolding filled
 returns c =
     let l = c.loop-i in
     let e : l.i ≡ 65536 = omega arith in
-    rw e at l.invariant.5
+    rw e at l.invariant.3

@@ -1,36 +1,52 @@
--- By the item's number.
+-- By the item.
+use mathlib.Core.Path.{ap, ◌∙◌}
+use Rattle.std.specs.Prelude.{Ok}
+use Rattle.items.proofs.ByKind.{in_arm}
 use Rattle.script.specs.Playing.{play_of}
-use Rattle.items.proofs.ByKind.{kind_1, kind_2, kind_3, kind_4, kind_5, kind_6, kind_7, kind_other}
 use Rattle.script.proofs.play.Goals as goal
 
-pub returns-in-1 : goal.returns-in-1
+pub returns-in-Ok-Request : goal.returns-in-Ok-Request
 unfolding play_of
-returns-in-1 c = kind_1 _ _ _ _ _ _ _ _ _ _ _ c.byte_at-kind.ensures c.in-1.is c.play_request.ensures
+returns-in-Ok-Request c =
+    let arm = c.in-Ok-Request in
+    in_arm _ _ _ _ _ _ _ _ _ c.try_from.ensures c.byte_at.ensures (arm.is ∙ ap Ok arm.field-0-is) c.play_request.ensures
 
-pub returns-in-2 : goal.returns-in-2
+pub returns-in-Ok-Tick : goal.returns-in-Ok-Tick
 unfolding play_of
-returns-in-2 c = kind_2 _ _ _ _ _ _ _ _ _ _ _ c.byte_at-kind.ensures c.in-2.is c.play_tick.ensures
+returns-in-Ok-Tick c =
+    let arm = c.in-Ok-Tick in
+    in_arm _ _ _ _ _ _ _ _ _ c.try_from.ensures c.byte_at.ensures (arm.is ∙ ap Ok arm.field-0-is) c.play_tick.ensures
 
-pub returns-in-3 : goal.returns-in-3
+pub returns-in-Ok-Query : goal.returns-in-Ok-Query
 unfolding play_of
-returns-in-3 c = kind_3 _ _ _ _ _ _ _ _ _ _ _ c.byte_at-kind.ensures c.in-3.is (rw (c.play_query.ensures.0, c.play_query.ensures.1, c.play_query.ensures.2))
+returns-in-Ok-Query c =
+    let arm = c.in-Ok-Query in
+    in_arm _ _ _ _ _ _ _ _ _ c.try_from.ensures c.byte_at.ensures (arm.is ∙ ap Ok arm.field-0-is) (rw (c.play_query.ensures.0, c.play_query.ensures.1, c.play_query.ensures.2))
 
-pub returns-in-4 : goal.returns-in-4
+pub returns-in-Ok-Image : goal.returns-in-Ok-Image
 unfolding play_of
-returns-in-4 c = kind_4 _ _ _ _ _ _ _ _ _ _ _ c.byte_at-kind.ensures c.in-4.is (rw (c.lend_image.ensures.0, c.lend_image.ensures.1))
+returns-in-Ok-Image c =
+    let arm = c.in-Ok-Image in
+    in_arm _ _ _ _ _ _ _ _ _ c.try_from.ensures c.byte_at.ensures (arm.is ∙ ap Ok arm.field-0-is) (rw (c.lend_image.ensures.0, c.lend_image.ensures.1))
 
-pub returns-in-5 : goal.returns-in-5
+pub returns-in-Ok-Table : goal.returns-in-Ok-Table
 unfolding play_of
-returns-in-5 c = kind_5 _ _ _ _ _ _ _ _ _ _ _ c.byte_at-kind.ensures c.in-5.is (rw c.lend_table.ensures)
+returns-in-Ok-Table c =
+    let arm = c.in-Ok-Table in
+    in_arm _ _ _ _ _ _ _ _ _ c.try_from.ensures c.byte_at.ensures (arm.is ∙ ap Ok arm.field-0-is) (rw c.lend_table.ensures)
 
-pub returns-in-6 : goal.returns-in-6
+pub returns-in-Ok-Area : goal.returns-in-Ok-Area
 unfolding play_of
-returns-in-6 c = kind_6 _ _ _ _ _ _ _ _ _ _ _ c.byte_at-kind.ensures c.in-6.is (rw (c.lends.ensures, c.fill_area.ensures, c.byte_at.ensures))
+returns-in-Ok-Area c =
+    let arm = c.in-Ok-Area in
+    in_arm _ _ _ _ _ _ _ _ _ c.try_from.ensures c.byte_at.ensures (arm.is ∙ ap Ok arm.field-0-is) (rw (c.lends.ensures, c.fill_area.ensures, c.byte_at-in-Ok-Area.ensures))
 
-pub returns-in-7 : goal.returns-in-7
+pub returns-in-Ok-Lengths : goal.returns-in-Ok-Lengths
 unfolding play_of
-returns-in-7 c = kind_7 _ _ _ _ _ _ _ _ _ _ _ c.byte_at-kind.ensures c.in-7.is (rw c.lend_lengths.ensures)
+returns-in-Ok-Lengths c =
+    let arm = c.in-Ok-Lengths in
+    in_arm _ _ _ _ _ _ _ _ _ c.try_from.ensures c.byte_at.ensures (arm.is ∙ ap Ok arm.field-0-is) (rw c.lend_lengths.ensures)
 
-pub returns-in_default : goal.returns-in_default
+pub returns-in-Err : goal.returns-in-Err
 unfolding play_of
-returns-in_default c = kind_other _ _ _ _ _ _ _ _ _ _ _ c.byte_at-kind.ensures c.in_default.in_default-own.rest.0.0.0.0.0.0.1 c.in_default.in_default-own.rest.0.0.0.0.0.1 c.in_default.in_default-own.rest.0.0.0.0.1 c.in_default.in_default-own.rest.0.0.0.1 c.in_default.in_default-own.rest.0.0.1 c.in_default.in_default-own.rest.0.1 c.in_default.in_default-own.rest.1 (rw c.unknown.ensures)
+returns-in-Err c = in_arm _ _ _ _ _ _ _ _ _ c.try_from.ensures c.byte_at.ensures c.in-Err.is (rw c.unknown.ensures)

@@ -1,20 +1,13 @@
--- By what was decoded of the header. Assumes nothing.
+-- By what was decoded of the header.
 use Rattle.picks.proofs.Picks.{at_case}
-use mathlib.Core.Path.{sym}
-use Rattle.protocol.specs.SequenceHeader.{told_header}
+use mathlib.Core.Path.{refl, sym}
 use Rattle.reading.specs.Frame.{answer_frame, frame_of}
 use Rattle.reading.proofs.frame.read.Goals as goal
 
-pub returns-in-Header : goal.returns-in-Header
+pub returns-in-Ok : goal.returns-in-Ok
 unfolding frame_of
-returns-in-Header c =
-    let d = c in
-    let a = d.args in
-    at_case (λ x. answer_frame x a.bytes.now) (sym d.deserialize-h.ensures) (at_case (λ x. answer_frame (told_header x) a.bytes.now) c.in-Header.is (cc))
+returns-in-Ok c = at_case (λ x. answer_frame x c.args.bytes.now) (sym c.in-Ok.ensures) (cc)
 
-pub returns-in-BufferTooShort : goal.returns-in-BufferTooShort
+pub returns-in-Err : goal.returns-in-Err
 unfolding frame_of
-returns-in-BufferTooShort c =
-    let d = c in
-    let a = d.args in
-    at_case (λ x. answer_frame x a.bytes.now) (sym d.deserialize-h.ensures) (at_case (λ x. answer_frame (told_header x) a.bytes.now) c.in-BufferTooShort.is c.bare.ensures)
+returns-in-Err c = at_case (λ x. answer_frame x c.args.bytes.now) (sym c.in-Err.ensures) refl

@@ -1,32 +1,35 @@
--- By its test, then by what was decoded. Assumes nothing.
+-- By its test, then by what was decoded.
 use Rattle.picks.proofs.Picks.{pick_t, pick_f, at_case}
+use Rattle.std.specs.Prelude.{◌≡◌, List, ℕ, Err, eqb, length}
+use mathlib.Core.Bool.{true, false}
 use mathlib.Core.Path.{refl, sym}
-use borrow.Author.Tests.{eq-eqb, ne_eqb}
+use borrow.Author.Rules.{rules}
+use Rattle.protocol.specs.declared.SequenceLayerHeader.{SequenceLayerHeader}
+use Rattle.protocol.specs.declared.CommandError.{CommandError}
+use Rattle.protocol.specs.declared.CommandError.TheVariants as C
 use Rattle.protocol.specs.Command.{told_command}
+use Rattle.reading.specs.declared.frame.Frame.TheVariants.{Unreadable}
 use Rattle.reading.specs.Frame.{decoding_frame, rest_frame}
 use Rattle.reading.proofs.frame.with_rest.Goals as goal
 
-pub returns-then-rest-eq0 : goal.returns-then-rest-eq0
-unfolding rest_frame
-returns-then-rest-eq0 c = pick_t _ _ _ _ (eq-eqb _ _ c.if-rest-eq0.true) refl
+unreadable : (h : SequenceLayerHeader) (rest : List ℕ) (e : CommandError) → Unreadable h ≡ decoding_frame h (told_command rest (Err e))
+unreadable h rest C.BufferTooShort = refl
+unreadable h rest C.Undecodable = refl
 
-pub returns-in-Command : goal.returns-in-Command
+pub returns-then-is_empty : goal.returns-then-is_empty
 unfolding rest_frame
-returns-in-Command c =
-    let d = c in
-    let a = d.args in
-    pick_f _ _ _ _ (ne_eqb _ _ d.if-rest-eq0.false) (at_case (decoding_frame a.f) (sym d.deserialize-c.ensures) (at_case (λ x. decoding_frame a.f (told_command a.rest.now x)) c.in-Command.is c.with_command.ensures))
+returns-then-is_empty c =
+    let e : eqb (length c.args.rest.now) 0 ≡ true = search rules in
+    pick_t _ _ _ _ e refl
 
-pub returns-in-BufferTooShort : goal.returns-in-BufferTooShort
+pub returns-in-Ok : goal.returns-in-Ok
 unfolding rest_frame
-returns-in-BufferTooShort c =
-    let d = c in
-    let a = d.args in
-    pick_f _ _ _ _ (ne_eqb _ _ d.if-rest-eq0.false) (at_case (decoding_frame a.f) (sym d.deserialize-c.ensures) (at_case (λ x. decoding_frame a.f (told_command a.rest.now x)) c.in-BufferTooShort.is c.with_kind.ensures))
+returns-in-Ok c =
+    let e : eqb (length c.args.rest.now) 0 ≡ false = search rules in
+    pick_f _ _ _ _ e (at_case (decoding_frame c.args.header) (sym c.in-Ok.ensures) refl)
 
-pub returns-in-Undecodable : goal.returns-in-Undecodable
+pub returns-in-Err : goal.returns-in-Err
 unfolding rest_frame
-returns-in-Undecodable c =
-    let d = c in
-    let a = d.args in
-    pick_f _ _ _ _ (ne_eqb _ _ d.if-rest-eq0.false) (at_case (decoding_frame a.f) (sym d.deserialize-c.ensures) (at_case (λ x. decoding_frame a.f (told_command a.rest.now x)) c.in-Undecodable.is c.with_kind-in-Undecodable.ensures))
+returns-in-Err c =
+    let e : eqb (length c.args.rest.now) 0 ≡ false = search rules in
+    pick_f _ _ _ _ e (at_case (decoding_frame c.args.header) (sym c.in-Err.ensures) (unreadable _ c.args.rest.now c.in-Err.field-0))

@@ -1,5 +1,0 @@
--- Nothing is said.
-use Rattle.script.proofs.unknown.Goals as goal
-
-pub returns : goal.returns
-returns c = rw c.only.ensures
