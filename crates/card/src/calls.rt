@@ -1,13 +1,14 @@
 // The rows of the bench card that are calls.
 use crate::bench;
+use crate::bench::{Call, Due, Left};
 use crate::rows::Score;
-use protocol::{Deadline, SdoServerState, SdoTransferState};
+use protocol::{Refusal, SdoServerState, SdoTransferState};
 use std::io;
 
 // Byte i of an image becomes i times 31 plus i / 251, modulo 256.
 fn fill(image: &mut [u8]) {
-    for i in 0..image.len() {
-        octets::store_u8(image, i, ((i % 256 * 31 + i / 251 % 256) % 256) as u8);
+    for (i, byte) in image.iter_mut().enumerate() {
+        *byte = ((i % 256 * 31 + i / 251 % 256) % 256) as u8;
     }
 }
 
@@ -15,70 +16,72 @@ fn fill(image: &mut [u8]) {
 fn put_object(image: &mut [u8], n: u16) {
     fill(image);
     octets::copy_at(image, 0, &[1, 0, 0x01, 0x20, 1, 0, 14, 0, 0, 0]);
-    octets::store_u16(image, 10, n);
-    octets::store_u16(image, 12, n);
+    octets::store(image, 10, n);
+    octets::store(image, 12, n);
 }
 
 // The read of a value of two bytes, and of one that is absent.
-fn held_row(rt: &impl Print, s: Score) -> io::Result<Score> {
+fn held_row(rt: &impl Print, score: &mut Score) -> io::Result<()> {
     let object = [1, 0, 0x01, 0x20, 1, 0, 14, 0, 0, 0, 2, 0, 2, 0, 0x34, 0x12];
-    let text = b"a new client| 00 01 00 00| 01 01 00 00 00 00 10 00 00 00 00 00| 00 00 00 00|Opening
+    let text = "a new client| 00 01 00 00| 01 01 00 00 00 00 10 00 00 00 00 00| 00 00 00 00|Opening
 then a read of 2001/1, which holds 34 12| 02 06 00 00 00 07 00 02 04 00 00 00 01 20 01 00| 06 06 00 00 00 07 10 00 02 00 00 00 34 12| 00 00 00 00|dropped";
-    bench::script(rt, bench::empty(s), &object, &object, text)
+    bench::script(rt, score, record::empty_table(), &object, &object, text)
 }
 
-fn absent_row(rt: &impl Print, s: Score) -> io::Result<Score> {
-    let text = b"a new client| 00 01 00 00| 01 01 00 00 00 00 10 00 00 00 00 00| 00 00 00 00|Opening
+fn absent_row(rt: &impl Print, score: &mut Score) -> io::Result<()> {
+    let text = "a new client| 00 01 00 00| 01 01 00 00 00 00 10 00 00 00 00 00| 00 00 00 00|Opening
 then the same read, 2001 absent| 02 06 00 00 00 07 00 02 04 00 00 00 01 20 01 00| FE 04 00 00 00 07 30 00 04 00 00 00 00 00 02 06| 00 00 00 00|dropped";
-    bench::script(rt, bench::empty(s), &[0, 0], &[0, 0], text)
+    bench::script(rt, score, record::empty_table(), &[0, 0], &[0, 0], text)
 }
 
-fn undecodable_row(rt: &impl Print, s: Score) -> io::Result<Score> {
+fn undecodable_row(rt: &impl Print, score: &mut Score) -> io::Result<()> {
     let text =
-        b"command 05 07 00| 00 00 00 00 05 07 00| FC 00 00 00 00 05 30 00 04 00 00 00 01 00 04 05| 00 00 00 00|dropped";
-    bench::script(rt, bench::empty(s), &[0, 0], &[0, 0], text)
+        "command 05 07 00| 00 00 00 00 05 07 00| FC 00 00 00 00 05 30 00 04 00 00 00 01 00 04 05| 00 00 00 00|dropped";
+    bench::script(rt, score, record::empty_table(), &[0, 0], &[0, 0], text)
 }
 
 // The rows of a read answered in one frame, and of a command that is none.
-pub fn reading_rows(rt: &impl Print, s: Score) -> io::Result<Score> {
-    undecodable_row(rt, absent_row(rt, held_row(rt, s)?)?)
+pub fn reading_rows(rt: &impl Print, score: &mut Score) -> io::Result<()> {
+    held_row(rt, score)?;
+    absent_row(rt, score)?;
+    undecodable_row(rt, score)
 }
 
 // A read of a value of n bytes.
-fn upload_row(rt: &impl Print, s: Score, n: u16, text: &[u8]) -> io::Result<Score> {
+fn upload_row(rt: &impl Print, score: &mut Score, n: u16, text: &str) -> io::Result<()> {
     let mut space = [0u8; 8206];
     put_object(&mut space, n);
-    let object = octets::part(&space, 0, 14 + (n as usize));
-    bench::script(rt, bench::empty(s), object, object, text)
+    let object = octets::part(&space, 0, 14 + usize::from(n));
+    bench::script(rt, score, record::empty_table(), object, object, text)
 }
 
-fn short_upload_rows(rt: &impl Print, s: Score) -> io::Result<Score> {
-    let text = b"a new client| 00 01 00 00| 01 01 00 00 00 00 10 00 00 00 00 00| 00 00 00 00|Opening
+fn short_upload_rows(rt: &impl Print, score: &mut Score) -> io::Result<()> {
+    let text = "a new client| 00 01 00 00| 01 01 00 00 00 00 10 00 00 00 00 00| 00 00 00 00|Opening
 a read of 1452 bytes: one Expedited| 02 06 00 00 00 07 00 02 04 00 00 00 01 20 01 00| 06 06 00 00 00 07 10 00 AC 05 00 00| 0E 00 AC 05|dropped";
-    let s = upload_row(rt, s, 1452, text)?;
-    let text = b"a new client| 00 01 00 00| 01 01 00 00 00 00 10 00 00 00 00 00| 00 00 00 00|Opening
+    upload_row(rt, score, 1452, text)?;
+    let text = "a new client| 00 01 00 00| 01 01 00 00 00 00 10 00 00 00 00 00| 00 00 00 00|Opening
 a read of 1453 bytes: Initiate of 1452| 02 06 00 00 00 07 00 02 04 00 00 00 01 20 01 00| 06 06 00 00 00 07 50 02 AC 05 00 00 AD 05 00 00| 0E 00 AC 05|upload
 acknowledged: Complete of 1| 06 0A 00 00| 0A 0A 00 00 00 07 D0 02 01 00 00 00| BA 05 01 00|dropped";
-    upload_row(rt, s, 1453, text)
+    upload_row(rt, score, 1453, text)
 }
 
-fn long_upload_rows(rt: &impl Print, s: Score) -> io::Result<Score> {
-    let text = b"a new client| 00 01 00 00| 01 01 00 00 00 00 10 00 00 00 00 00| 00 00 00 00|Opening
+fn long_upload_rows(rt: &impl Print, score: &mut Score) -> io::Result<()> {
+    let text = "a new client| 00 01 00 00| 01 01 00 00 00 00 10 00 00 00 00 00| 00 00 00 00|Opening
 a read of 2904 bytes: Initiate of 1452| 02 06 00 00 00 07 00 02 04 00 00 00 01 20 01 00| 06 06 00 00 00 07 50 02 AC 05 00 00 58 0B 00 00| 0E 00 AC 05|upload
 acknowledged: Complete of 1452| 06 0A 00 00| 0A 0A 00 00 00 07 D0 02 AC 05 00 00| BA 05 AC 05|dropped";
-    let s = upload_row(rt, s, 2904, text)?;
-    let text = b"a new client| 00 01 00 00| 01 01 00 00 00 00 10 00 00 00 00 00| 00 00 00 00|Opening
+    upload_row(rt, score, 2904, text)?;
+    let text = "a new client| 00 01 00 00| 01 01 00 00 00 00 10 00 00 00 00 00| 00 00 00 00|Opening
 a read of 8192 bytes, six pieces: Initiate of 1452| 02 06 00 00 00 07 00 02 04 00 00 00 01 20 01 00| 06 06 00 00 00 07 50 02 AC 05 00 00 00 20 00 00| 0E 00 AC 05|upload
 acknowledged: Segment of 1452| 06 0A 00 00| 0A 0A 00 00 00 07 90 02 AC 05 00 00| BA 05 AC 05|upload
 acknowledged: Segment of 1452| 0A 0E 00 00| 0E 0E 00 00 00 07 90 02 AC 05 00 00| 66 0B AC 05|upload
 acknowledged: Segment of 1452| 0E 12 00 00| 12 12 00 00 00 07 90 02 AC 05 00 00| 12 11 AC 05|upload
 acknowledged: Segment of 1452| 12 16 00 00| 16 16 00 00 00 07 90 02 AC 05 00 00| BE 16 AC 05|upload
 acknowledged: Complete of 932| 16 1A 00 00| 1A 1A 00 00 00 07 D0 02 A4 03 00 00| 6A 1C A4 03|dropped";
-    upload_row(rt, s, 8192, text)
+    upload_row(rt, score, 8192, text)
 }
 
 // An upload that is due at 1,000,000 with no retries left.
-fn tick_row(rt: &impl Print, s: Score) -> io::Result<Score> {
+fn tick_row(rt: &impl Print, score: &mut Score) -> io::Result<()> {
     let area = [0u8; 65536];
     let image = [0, 0];
     let transfer = SdoTransferState {
@@ -87,21 +90,21 @@ fn tick_row(rt: &impl Print, s: Score) -> io::Result<Score> {
         offset: 1452,
         index: 0x2001,
         sub: 1,
-        deadline: Deadline::At(1000000),
+        deadline: Some(1000000),
         retries: 0,
         stored: true,
     };
-    let b = bench::in_state(s, 5, 7, SdoServerState::SegmentedUpload(transfer));
-    let due = bench::leaves(bench::UPLOAD);
-    let b = bench::ticks(rt, b, &area, &image, 999999, b"", due)?;
-    let head = b" FE 00 00 00 00 09 30 00 04 00 00 00 00 00 04 05";
-    let due = bench::leaves(bench::DROPPED);
-    let b = bench::ticks(rt, b, &area, &image, 1000000, head, due)?;
-    Ok(b.score)
+    let t = bench::in_state(5, 7, SdoServerState::SegmentedUpload(transfer));
+    let due = bench::leaves(Left::Upload);
+    let t = bench::ticks(rt, score, t, &area, &image, 999999, "", due)?;
+    let head = " FE 00 00 00 00 09 30 00 04 00 00 00 00 00 04 05";
+    let due = bench::leaves(Left::Dropped);
+    bench::ticks(rt, score, t, &area, &image, 1000000, head, due)?;
+    Ok(())
 }
 
 // A request in a download of ten bytes to 2001/1, of which six are there.
-fn download_row(rt: &impl Print, s: Score, body: &[u8], text: &[u8]) -> io::Result<Score> {
+fn download_row(rt: &impl Print, score: &mut Score, body: &[u8], text: &str) -> io::Result<()> {
     let image = [
         1, 0, 0x01, 0x20, 1, 0, 14, 0, 0, 0, 10, 0, 10, 0, 0, 0, 0, 0, 0, 0, 0, 0, 0, 0,
     ];
@@ -113,72 +116,71 @@ fn download_row(rt: &impl Print, s: Score, body: &[u8], text: &[u8]) -> io::Resu
         offset: 6,
         index: 0x2001,
         sub: 1,
-        deadline: Deadline::At(5),
+        deadline: Some(5),
         retries: 0,
         stored: false,
     };
-    let b = bench::in_state(s, 1, 1, SdoServerState::SegmentedDownload(transfer));
-    bench::script(rt, b, &image, &object, text)
+    let t = bench::in_state(1, 1, SdoServerState::SegmentedDownload(transfer));
+    bench::script(rt, score, t, &image, &object, text)
 }
 
-fn download_rows(rt: &impl Print, s: Score) -> io::Result<Score> {
+fn download_rows(rt: &impl Print, score: &mut Score) -> io::Result<()> {
     let text =
-        b"download total 10, offset 6: Segment of 5| 06 0A 00 00 00 07 80 01 05 00 00 00 00 00 00 00 00| FE 08 00 00 00 07 30 00 04 00 00 00 10 00 07 06| 00 00 00 00|dropped";
-    let s = download_row(rt, s, b"", text)?;
+        "download total 10, offset 6: Segment of 5| 06 0A 00 00 00 07 80 01 05 00 00 00 00 00 00 00 00| FE 08 00 00 00 07 30 00 04 00 00 00 10 00 07 06| 00 00 00 00|dropped";
+    download_row(rt, score, &[], text)?;
     let text =
-        b"the same: Complete of 3| 06 0A 00 00 00 07 C0 01 03 00 00 00 00 00 00| FE 08 00 00 00 07 30 00 04 00 00 00 13 00 07 06| 00 00 00 00|dropped";
-    let s = download_row(rt, s, b"", text)?;
+        "the same: Complete of 3| 06 0A 00 00 00 07 C0 01 03 00 00 00 00 00 00| FE 08 00 00 00 07 30 00 04 00 00 00 13 00 07 06| 00 00 00 00|dropped";
+    download_row(rt, score, &[], text)?;
     let text =
-        b"the same: Complete of 4, which writes 01 to 0A into 2001/1| 06 0A 00 00 00 07 C0 01 04 00 00 00 07 08 09 0A| 0A 0A 00 00 00 07 10 00 00 00 00 00| 00 00 00 00|dropped";
-    download_row(rt, s, &[1, 2, 3, 4, 5, 6, 7, 8, 9, 10], text)
+        "the same: Complete of 4, which writes 01 to 0A into 2001/1| 06 0A 00 00 00 07 C0 01 04 00 00 00 07 08 09 0A| 0A 0A 00 00 00 07 10 00 00 00 00 00| 00 00 00 00|dropped";
+    download_row(rt, score, &[1, 2, 3, 4, 5, 6, 7, 8, 9, 10], text)
 }
 
 // The rows of uploads, of the tick and of downloads.
-pub fn transfer_rows(rt: &impl Print, s: Score) -> io::Result<Score> {
-    let s = long_upload_rows(rt, short_upload_rows(rt, s)?)?;
-    download_rows(rt, tick_row(rt, s)?)
+pub fn transfer_rows(rt: &impl Print, score: &mut Score) -> io::Result<()> {
+    short_upload_rows(rt, score)?;
+    long_upload_rows(rt, score)?;
+    tick_row(rt, score)?;
+    download_rows(rt, score)
 }
 
 // A request of a length, a Nil of transaction 7 with zeros behind it.
 fn length_row(
     rt: &impl Print,
-    s: Score,
-    what: &[u8],
+    score: &mut Score,
+    what: &str,
     n: usize,
-    head: &[u8],
-    due: bench::Due,
-) -> io::Result<Score> {
+    head: &str,
+    due: Due,
+) -> io::Result<()> {
     let mut area = [0u8; 65536];
     let mut image = [0, 0];
     let mut space = [0u8; 1501];
     octets::store_u8(&mut space, 5, 7);
-    let b = bench::empty(s);
     let bytes = octets::part(&space, 0, n);
-    let b = bench::asks(
-        rt,
-        b,
-        &mut area,
-        &mut image,
-        &[0, 0],
+    let call = Call {
         what,
         bytes,
         head,
         due,
+    };
+    bench::asks(
+        rt,
+        score,
+        record::empty_table(),
+        &mut area,
+        &mut image,
+        &[0, 0],
+        call,
     )?;
-    Ok(b.score)
+    Ok(())
 }
 
 // A request of 1,500 bytes is served, one of 1,501 is refused with 6.
-pub fn length_rows(rt: &impl Print, s: Score) -> io::Result<Score> {
-    let what = b"a request of 1500 bytes";
-    let head = b" FC 00 00 00 00 07 10 00 00 00 00 00";
-    let s = length_row(rt, s, what, 1500, head, bench::leaves(bench::DROPPED))?;
-    length_row(
-        rt,
-        s,
-        b"a request of 1501 bytes",
-        1501,
-        b"",
-        bench::refuses(6),
-    )
+pub fn length_rows(rt: &impl Print, score: &mut Score) -> io::Result<()> {
+    let what = "a request of 1500 bytes";
+    let head = " FC 00 00 00 00 07 10 00 00 00 00 00";
+    length_row(rt, score, what, 1500, head, bench::leaves(Left::Dropped))?;
+    let what = "a request of 1501 bytes";
+    length_row(rt, score, what, 1501, "", bench::refuses(Refusal::Long))
 }

@@ -4,15 +4,14 @@
 mod bench;
 mod calls;
 mod codecs;
-mod print;
 mod rows;
 mod tables;
 
 use crate::rows::Score;
 use std::io;
 
-fn codec_rows(rt: &impl Print, s: Score) -> io::Result<Score> {
-    let text = b"Bench card: the rows that the codec decides, bytes in hex. A header is
+fn codec_rows(rt: &impl Print, score: &mut Score) -> io::Result<()> {
+    let text = "Bench card: the rows that the codec decides, bytes in hex. A header is
 read to numbers and marks, a command to transaction, response, aborted,
 segmentation, id, size and payload, an undecodable one to its transaction.
 H header numbers 5, 0, marks 2, 2| 05 00 02 02| 16 02 00 00
@@ -28,31 +27,29 @@ H header numbers 63, 1, marks 2, 0| 3F 01 02 00| FE 04 00 00
 X abort, id and code| 07 00 00 02 06| 00 07 30 00 04 00 00 00 00 00 02 06
 C undecodable| 05 07 00| 05
 H header numbers 63, 0, marks 2, 0| 3F 00 02 00| FE 00 00 00";
-    codecs::rows(rt, s, text)
+    codecs::rows(rt, score, text)
 }
 
-fn call_rows(rt: &impl Print, s: Score) -> io::Result<Score> {
-    print::say(
-        rt,
-        b"Bench card: the rows that are calls. The whole answer buffer is compared,\n",
-    )?;
-    print::say(
-        rt,
-        b"with the records in use and the image; long frames are printed in part.\n",
-    )?;
-    calls::length_rows(rt, calls::transfer_rows(rt, calls::reading_rows(rt, s)?)?)
+fn call_rows(rt: &impl Print, score: &mut Score) -> io::Result<()> {
+    print!(rt; "Bench card: the rows that are calls. ")?;
+    println!(rt; "The whole answer buffer is compared,")?;
+    println!(rt; "with the records in use and the image; long frames are printed in part.")?;
+    calls::reading_rows(rt, score)?;
+    calls::transfer_rows(rt, score)?;
+    calls::length_rows(rt, score)
 }
 
-fn table_rows(rt: &impl Print, s: Score) -> io::Result<Score> {
-    print::say(
-        rt,
-        b"DS 301: the tables that the Rust cites, as far as it follows them.\n",
-    )?;
-    tables::write_row(rt, tables::read_rows(rt, tables::layout_rows(rt, s)?)?)
+fn table_rows(rt: &impl Print, score: &mut Score) -> io::Result<()> {
+    println!(rt; "DS 301: the tables that the Rust cites, as far as it follows them.")?;
+    tables::layout_rows(rt, score)?;
+    tables::read_rows(rt, score)?;
+    tables::write_row(rt, score)
 }
 
 fn main(rt: HostRuntime) -> io::Result<()> {
-    let s = codec_rows(&rt, Score { rows: 0, differ: 0 })?;
-    let s = table_rows(&rt, call_rows(&rt, s)?)?;
-    print::say_filled(&rt, b"# rows, # differ\n", &[s.rows, s.differ])
+    let mut score = Score { rows: 0, differ: 0 };
+    codec_rows(&rt, &mut score)?;
+    call_rows(&rt, &mut score)?;
+    table_rows(&rt, &mut score)?;
+    println!(rt; "{} rows, {} differ", score.rows, score.differ)
 }

@@ -2,15 +2,15 @@
 #![tactic(auto)]
 
 mod exercise;
-mod print;
 mod sheet;
 mod verdict;
 
-use crate::exercise::Words;
-use crate::sheet::Sheet;
+use crate::sheet::{Call, Sheet};
+use crate::verdict::Break;
 use input::{INPUT, Window};
 use marking::Exercise;
-use script::{ANSWER, IMAGE, LENT_AREA, Lent, Played};
+use protocol::Connection;
+use script::{ANSWER, Done, IMAGE, LENT_AREA, Lent, Played};
 use std::io;
 
 // How far a run is, what is lent, and the sheet so far.
@@ -21,24 +21,30 @@ struct Run {
     sheet: Sheet,
 }
 
-// The sheet after an item that is known, with what was lent before it.
+// The sheet after an item, with the table before it. An item that is not known leaves the sheet as it is.
 fn step(
     rt: &impl Print,
     s: Sheet,
     e: Exercise,
     item: &[u8],
-    lent: Lent,
-    done: Played,
+    before: [Connection; 8],
+    played: Played,
     answer: &[u8; ANSWER],
 ) -> io::Result<Sheet> {
-    if !done.known {
-        return Ok(s);
+    match played.done {
+        Done::Unknown => Ok(s),
+        Done::Lends => sheet::lend_step(rt, s, item),
+        Done::Calls(told) => {
+            let after = played.lent.table;
+            let call = Call {
+                item,
+                before,
+                after,
+                answer,
+            };
+            sheet::call_step(rt, s, e, call, told)
+        }
     }
-    if !done.call {
-        return sheet::lend_step(rt, s, item);
-    }
-    let row = lent.table;
-    sheet::call_step(rt, s, e, item, row, done, answer)
 }
 
 // One turn: more is read, or an item is played and shown. An unknown item ends the run.
@@ -51,27 +57,27 @@ fn turn(
     e: Exercise,
     run: Run,
 ) -> io::Result<Run> {
-    let window = run.window;
-    let lent = run.lent;
-    let sheet = run.sheet;
+    let Run {
+        window,
+        lent,
+        sheet,
+    } = run;
     let bytes = input::unplayed(input, window);
     let n = items::length_of(bytes);
     if bytes.len() < n {
         return Ok(Run {
             window: input::refilled(reader, input, window),
-            lent: lent,
-            sheet: sheet,
+            ..run
         });
     }
     let item = octets::part(bytes, 0, n);
     let mut answer = [0; ANSWER];
-    let done = script::play(item, lent, area, image, &mut answer);
-    let sheet = step(rt, sheet, e, item, lent, done, &answer)?;
-    let lent = done.lent;
+    let played = script::play(item, lent, area, image, &mut answer);
+    let known = !matches!(played.done, Done::Unknown);
     Ok(Run {
-        window: input::passed(window, n, done.known),
-        lent: lent,
-        sheet: sheet,
+        window: input::passed(window, n, known),
+        lent: played.lent,
+        sheet: step(rt, sheet, e, item, lent.table, played, &answer)?,
     })
 }
 
@@ -98,51 +104,30 @@ fn played(
     Ok(run)
 }
 
-// The end of the sheet, with how the recording ends: whole, in the middle of an item, or with one that is unknown.
-fn end(rt: &impl Print, input: &[u8; INPUT], e: Exercise, run: Run) -> io::Result<()> {
-    let window = run.window;
-    let sheet = run.sheet;
+// Where the recording ends, if it is not whole: in the middle of an item, or at one that is unknown.
+fn ended(input: &[u8; INPUT], window: Window) -> Option<Break> {
     let bytes = input::unplayed(input, window);
-    if bytes.len() == 0 {
-        return verdict::say_end(rt, sheet, e, b"", 0);
+    if bytes.is_empty() {
+        return None;
     }
     if bytes.len() < items::length_of(bytes) {
-        return verdict::say_end(
-            rt,
-            sheet,
-            e,
-            b"is cut short in the item at byte ",
-            window.at,
-        );
+        return Some(Break::CutShort(window.at));
     }
-    verdict::say_end(
-        rt,
-        sheet,
-        e,
-        b"cannot be read on: unknown item at byte ",
-        window.at,
-    )
+    Some(Break::Unknown(window.at))
 }
 
+// What is marked, and how to read the steps.
 fn say_title(rt: &impl Print, e: Exercise) -> io::Result<()> {
-    print::say(rt, b"MARKED SHEET\nExercise: read ")?;
-    print::say_object(rt, e.index, e.sub)?;
-    print::say_filled(
-        rt,
-        b", to its end: # bytes.
-Each step is what a client sent and what the controller answered: in words, decoded, and as bytes in hex.
-
-",
-        &[e.length as u64],
-    )
+    let object = sheet::object_of(e);
+    println!(rt; "MARKED SHEET")?;
+    println!(rt; "Exercise: read {object}, to its end: {} bytes.", e.length)?;
+    print!(rt; "Each step is what a client sent and what the controller answered: ")?;
+    println!(rt; "in words, decoded, and as bytes in hex.\n")
 }
 
 // The end of the last line, where all that stands before it was written. Where something cannot be written, the sheet is not whole.
 fn close(rt: &(impl Print + Eprint), written: io::Result<()>) -> io::Result<()> {
-    let whole = match written {
-        Ok(()) => print::say(rt, b"\n"),
-        Err(e) => Err(e),
-    };
+    let whole = written.and_then(|()| println!(rt; ""));
     if whole.is_err() {
         eprintln!(rt; "mark: the sheet cannot be written")?;
     }
@@ -157,7 +142,7 @@ fn sheet_of(rt: &(impl Input + Print), e: Exercise) -> io::Result<()> {
     let mut reader = rt.reader();
     say_title(rt, e)?;
     let run = played(rt, &mut reader, &mut input, &mut area, &mut image, e)?;
-    end(rt, &input, e, run)
+    verdict::say_end(rt, run.sheet, e, ended(&input, run.window))
 }
 
 // Marks the recording on standard input.
@@ -166,13 +151,11 @@ fn mark(rt: &(impl Input + Print + Eprint), e: Exercise) -> io::Result<()> {
 }
 
 fn main(rt: HostRuntime) -> io::Result<()> {
-    let words = exercise::of_arguments(&rt);
-    match words {
-        Words::Marks(e) => mark(&rt, e),
-        Words::Wrong => eprint!(rt;
-            "usage: mark [INDEX SUB LENGTH] < RECORDING
-INDEX in hex, SUB (at most 255) and LENGTH in decimal; by default 2110 0 4096
-"
-        ),
-    }
+    let Some(exercise) = exercise::of_arguments(&rt) else {
+        eprintln!(rt; "usage: mark [INDEX SUB LENGTH] < RECORDING")?;
+        return eprintln!(rt;
+            "INDEX in hex, SUB (at most 255) and LENGTH in decimal; by default 2110 0 4096"
+        );
+    };
+    mark(&rt, exercise)
 }

@@ -1,11 +1,13 @@
 // The sheet: each call of a recording as a step, and what the steps come to.
-use crate::print;
-use marking::{Book, Event, Exercise};
-use protocol::{Connection, SdoClientInfo, SdoServerState};
+use items::{Item, UnknownItem};
+use marking::{Book, Event, Exercise, Noted};
+use protocol::{Answered, Connection, ReceiveConnState, Refusal, SdoClientInfo, SdoServerState};
 use reading::frame::Frame;
 use reading::{Reading, frame};
-use script::Played;
+use script::told::Told;
 use std::io;
+use steps::{Answer, Request};
+use wording::{Client, Clock, Decoded, Object, Refused};
 
 // A finished reading of the exercise's object.
 #[derive(Clone, Copy)]
@@ -23,17 +25,25 @@ pub struct Sheet {
     pub silent: u64,
     pub queries: u64,
     pub book: Book,
-    pub finishes: [Finish; 8],
+    pub finishes: [Option<Finish>; 8],
     pub finished: u64,
-    pub passed: Finish,
+    pub passed: Option<Finish>,
 }
 
-fn no_finish() -> Finish {
-    Finish {
-        call: 0,
-        client: SdoClientInfo::Asnd { node: 0, mac: 0 },
-        length: 0,
-        crc: 0,
+// A call: its item, the tables before and after it, and the answer buffer.
+#[derive(Clone, Copy)]
+pub struct Call<'a> {
+    pub item: &'a [u8],
+    pub before: [Connection; 8],
+    pub after: [Connection; 8],
+    pub answer: &'a [u8],
+}
+
+// The object of an exercise.
+pub fn object_of(e: Exercise) -> Object {
+    Object {
+        index: e.index,
+        sub: e.sub,
     }
 }
 
@@ -44,45 +54,36 @@ pub fn blank() -> Sheet {
         silent: 0,
         queries: 0,
         book: marking::empty(),
-        finishes: [no_finish(); 8],
+        finishes: [None; 8],
         finished: 0,
-        passed: no_finish(),
+        passed: None,
     }
-}
-
-// One more of something that is counted.
-fn next(n: u64) -> u64 {
-    std::num::wrapping_add_u64(n, 1)
 }
 
 // The sheet with a finish.
 fn with_finish(mut s: Sheet, e: Exercise, f: Finish) -> Sheet {
-    let n = s.finished;
-    if n < 8 {
-        let mut rows = s.finishes;
-        rows[n as usize] = f;
-        s.finishes = rows;
+    if s.finished < 8 {
+        s.finishes[s.finished as usize] = Some(f);
     }
-    s.finished = next(n);
-    if (f.length == e.length) & (s.passed.call == 0) {
-        s.passed = f;
+    s.finished = s.finished.wrapping_add(1);
+    if f.length == e.length && s.passed.is_none() {
+        s.passed = Some(f);
     }
     s
 }
 
 // The sheet with what an answer says of a reading of the exercise's object.
-fn with_event(s: Sheet, e: Exercise, event: Event, r: Reading) -> Sheet {
-    let Event::Finished(length) = event else {
+fn with_event(s: Sheet, e: Exercise, event: Option<Event>, r: Reading) -> Sheet {
+    let Some(Event::Finished(length)) = event else {
         return s;
     };
-    let client = r.client;
-    let f = Finish {
+    let finish = Finish {
         call: s.calls,
-        client: client,
-        length: length,
+        client: r.client,
+        length,
         crc: reading::crc_of(r),
     };
-    with_finish(s, e, f)
+    with_finish(s, e, finish)
 }
 
 // An answer: it is shown and marked. A tick's has no request.
@@ -92,19 +93,23 @@ fn answered(
     e: Exercise,
     client: SdoClientInfo,
     request: &[u8],
-    answer: &[u8],
+    bytes: &[u8],
 ) -> io::Result<Sheet> {
-    let book = s.book;
-    let noted = marking::answered(book, e, client, request, answer);
-    let book = noted.book;
-    let piece = noted.piece;
-    let reading = noted.reading;
-    let event = noted.event;
-    let a = frame::read(answer);
+    let Noted {
+        piece,
+        reading,
+        event,
+        book,
+    } = marking::answered(s.book, e, client, request, bytes);
     s.book = book;
-    print::say(rt, b"  answer:  ")?;
-    print::say_answer(rt, frame::read(request), a, piece, reading)?;
-    print::say_frame(rt, a, answer)?;
+    let frame = frame::read(bytes);
+    let answer = Answer {
+        request: frame::read(request),
+        frame,
+        piece,
+        reading,
+    };
+    print!(rt; "  answer:  {answer}{}", Decoded { frame, bytes })?;
     Ok(with_event(s, e, event, reading))
 }
 
@@ -114,64 +119,83 @@ fn refused(
     mut s: Sheet,
     e: Exercise,
     request: &[u8],
-    number: u8,
+    refusal: Refusal,
 ) -> io::Result<Sheet> {
-    let book = s.book;
-    let book = marking::refused(book, e, request, number);
-    s.book = book;
-    print::say(rt, b"  answer:  none, refused with ")?;
-    print::say_refusal(rt, number)?;
-    print::say(rt, b"\n\n")?;
+    let number = u8::from(refusal);
+    s.book = marking::refused(s.book, e, request, number);
+    println!(rt; "  answer:  none, refused with {}\n", Refused(number))?;
     Ok(s)
 }
 
 // The line that begins a step.
 fn say_head(rt: &impl Print, s: Sheet, item: &[u8]) -> io::Result<()> {
-    print::say_filled(rt, b"Call # at ", &[s.calls])?;
-    print::say_clock(rt, items::clock_of(item))?;
-    print::say(rt, b", ")
+    print!(rt; "Call {} at {}, ", s.calls, Clock(items::clock_of(item)))
 }
 
 // Whether a state has taken a frame's number, so that the same number is a repeat.
 fn is_open(s: SdoServerState) -> bool {
     match s {
-        SdoServerState::Closed => false,
-        SdoServerState::Opening => false,
-        SdoServerState::Established => true,
-        SdoServerState::SegmentedDownload(t) => true,
-        SdoServerState::SegmentedUpload(t) => true,
+        SdoServerState::Closed | SdoServerState::Opening => false,
+        SdoServerState::Established
+        | SdoServerState::SegmentedDownload(_)
+        | SdoServerState::SegmentedUpload(_) => true,
     }
 }
 
 // Whether a request has the number of the client's frame before, and is no error response.
-fn is_repeat(row: [Connection; 8], client: SdoClientInfo, f: Frame) -> bool {
-    let c = table::record_at(row, table::place_of(row, client));
-    let state = c.state;
-    c.used & is_open(state) & (c.receive == f.send) & (f.kind != frame::SHORT) & (f.rcon != 3)
+fn is_repeat(row: [Connection; 8], client: SdoClientInfo, frame: Frame) -> bool {
+    let record = table::record_of(row, client);
+    match frame {
+        Frame::Short => false,
+        Frame::Empty(header) | Frame::Unreadable(header) | Frame::Command(header, _) => {
+            record.used
+                && is_open(record.state)
+                && record.receive == header.send
+                && header.rcon != ReceiveConnState::ErrorResponse
+        }
+    }
 }
 
+// A client and what it sent.
 fn say_request(
     rt: &impl Print,
     row: [Connection; 8],
     client: SdoClientInfo,
-    request: &[u8],
+    bytes: &[u8],
 ) -> io::Result<()> {
-    let f = frame::read(request);
-    print::say_client(rt, client)?;
-    print::say(rt, b"\n  request: ")?;
-    print::say_request(rt, f, request)?;
-    if is_repeat(row, client, f) {
-        print::say(rt, b"; a repeat: it has the number of the frame before")?;
+    let frame = frame::read(bytes);
+    print!(rt;
+        "{}\n  request: {}",
+        Client(client),
+        Request { frame, bytes }
+    )?;
+    if is_repeat(row, client, frame) {
+        print!(rt; "; a repeat: it has the number of the frame before")?;
     }
-    print::say_frame(rt, f, request)
+    print!(rt; "{}", Decoded { frame, bytes })
 }
 
 // The end of a step: it says where the client's connection is closed now.
 fn say_after(rt: &impl Print, row: [Connection; 8], client: SdoClientInfo) -> io::Result<()> {
-    if 7 < table::place_of(row, client) {
-        print::say(rt, b"  then:    the connection is closed\n")?;
+    if table::place_of(row, client).is_none() {
+        println!(rt; "  then:    the connection is closed")?;
     }
-    print::say(rt, b"\n")
+    println!(rt; "")
+}
+
+// An answer to a client, and whether its connection is closed then. A tick's has no request.
+fn answer_step(
+    rt: &impl Print,
+    s: Sheet,
+    e: Exercise,
+    call: Call,
+    said: Answered,
+    request: &[u8],
+) -> io::Result<Sheet> {
+    let bytes = octets::part(call.answer, 0, said.length);
+    let s = answered(rt, s, e, said.client, request, bytes)?;
+    say_after(rt, call.after, said.client)?;
+    Ok(s)
 }
 
 // A request and what came of it.
@@ -179,53 +203,16 @@ fn request_step(
     rt: &impl Print,
     s: Sheet,
     e: Exercise,
-    item: &[u8],
-    row: [Connection; 8],
-    done: Played,
-    answer: &[u8],
+    call: Call,
+    outcome: Result<Answered, Refusal>,
 ) -> io::Result<Sheet> {
-    let client = items::client_of(item);
-    let request = items::request_of(item);
-    let told = done.told;
-    let lent = done.lent;
-    let after = lent.table;
-    say_head(rt, s, item)?;
-    say_request(rt, row, client, request)?;
-    if told.code != 0 {
-        return refused(rt, s, e, request, told.code);
+    let request = items::request_of(call.item);
+    say_head(rt, s, call.item)?;
+    say_request(rt, call.before, items::client_of(call.item), request)?;
+    match outcome {
+        Ok(said) => answer_step(rt, s, e, call, said, request),
+        Err(refusal) => refused(rt, s, e, request, refusal),
     }
-    let s = answered(
-        rt,
-        s,
-        e,
-        client,
-        request,
-        octets::part(answer, 0, told.length),
-    )?;
-    say_after(rt, after, client)?;
-    Ok(s)
-}
-
-// A tick that answers a client.
-fn tick_answered(
-    rt: &impl Print,
-    s: Sheet,
-    e: Exercise,
-    item: &[u8],
-    done: Played,
-    answer: &[u8],
-) -> io::Result<Sheet> {
-    let told = done.told;
-    let lent = done.lent;
-    let after = lent.table;
-    let client = told.client;
-    say_head(rt, s, item)?;
-    print::say(rt, b"the controller's own clock, for ")?;
-    print::say_client(rt, client)?;
-    print::say(rt, b"\n")?;
-    let s = answered(rt, s, e, client, b"", octets::part(answer, 0, told.length))?;
-    say_after(rt, after, client)?;
-    Ok(s)
 }
 
 // A tick and what came of it.
@@ -233,21 +220,25 @@ fn tick_step(
     rt: &impl Print,
     mut s: Sheet,
     e: Exercise,
-    item: &[u8],
-    done: Played,
-    answer: &[u8],
+    call: Call,
+    outcome: Result<Option<Answered>, Refusal>,
 ) -> io::Result<Sheet> {
-    let told = done.told;
-    if told.code == 255 {
-        s.silent = next(s.silent);
-        return Ok(s);
+    match outcome {
+        Ok(None) => {
+            s.silent = s.silent.wrapping_add(1);
+            Ok(s)
+        }
+        Ok(Some(said)) => {
+            say_head(rt, s, call.item)?;
+            println!(rt; "the controller's own clock, for {}", Client(said.client))?;
+            answer_step(rt, s, e, call, said, b"")
+        }
+        Err(refusal) => {
+            say_head(rt, s, call.item)?;
+            println!(rt; "the controller's own clock")?;
+            refused(rt, s, e, b"", refusal)
+        }
     }
-    if told.code == 0 {
-        return tick_answered(rt, s, e, item, done, answer);
-    }
-    say_head(rt, s, item)?;
-    print::say(rt, b"the controller's own clock\n")?;
-    refused(rt, s, e, b"", told.code)
 }
 
 // A call and what came of it.
@@ -255,40 +246,36 @@ pub fn call_step(
     rt: &impl Print,
     mut s: Sheet,
     e: Exercise,
-    item: &[u8],
-    row: [Connection; 8],
-    done: Played,
-    answer: &[u8],
+    call: Call,
+    told: Told,
 ) -> io::Result<Sheet> {
-    s.calls = next(s.calls);
-    let kind = octets::byte_at(item, 0);
-    match kind {
-        1 => request_step(rt, s, e, item, row, done, answer),
-        2 => tick_step(rt, s, e, item, done, answer),
-        _ => {
-            s.queries = next(s.queries);
+    s.calls = s.calls.wrapping_add(1);
+    match told {
+        Told::Request(outcome) => request_step(rt, s, e, call, outcome),
+        Told::Tick(outcome) => tick_step(rt, s, e, call, outcome),
+        Told::Query(_) => {
+            s.queries = s.queries.wrapping_add(1);
             Ok(s)
         }
     }
 }
 
+// What an item lends, in words.
+fn say_lent(rt: &impl Print, what: &str) -> io::Result<()> {
+    println!(rt; "(The recording sets {what})\n")
+}
+
 // An item that lends something. A table that is lent knows nothing of the readings so far.
 pub fn lend_step(rt: &impl Print, mut s: Sheet, item: &[u8]) -> io::Result<Sheet> {
-    let kind = octets::byte_at(item, 0);
-    print::say(rt, b"(The recording sets ")?;
-    print::say_line(
-        rt,
-        b"the controller's objects.)
-the table of connections: readings begin anew.)
-the area.)
-the lengths of what the controller is lent.)",
-        std::num::wrapping_sub_u8(kind, 4),
-    )?;
-    print::say(rt, b"\n\n")?;
-    if kind == 5 {
-        let book = s.book;
-        let book = marking::anew(book);
-        s.book = book;
+    match Item::try_from(octets::byte_at(item, 0)) {
+        Ok(Item::Image) => say_lent(rt, "the controller's objects.")?,
+        Ok(Item::Table) => {
+            say_lent(rt, "the table of connections: readings begin anew.")?;
+            s.book = marking::anew(s.book);
+        }
+        Ok(Item::Area) => say_lent(rt, "the area.")?,
+        Ok(Item::Lengths) => say_lent(rt, "the lengths of what the controller is lent.")?,
+        Ok(Item::Request | Item::Tick | Item::Query) | Err(UnknownItem(_)) => {}
     }
     Ok(s)
 }

@@ -3,13 +3,14 @@ use Prim.Native.Nat.{ℕ, ◌+◌, ◌-◌, ◌≤◌, ◌<◌, min}
 use native.Mathlib.Omega.{arith}
 use mathlib.Core.Path.{◌≡◌, refl, sym, ap, ◌∙◌}
 use mathlib.Core.Bool.{Bool, true, false}
-use mathlib.Core.List.{List, [], ◌++◌}
+use mathlib.Core.List.{List, [], ◌∷◌, ◌++◌}
 use lib.Dec.{leb}
 use lib.ListN.{length, take, drop, length-append}
 use lib.Seq.{take-append_seam}
 use borrow.Author.Tests.{leb-true, leb-false}
-use Rattle.picks.specs.Pick.{pick}
-use Rattle.picks.proofs.Picks.{pick_t, pick_f}
+use Rattle.std.specs.Prelude.{Option, Some, None, IfSome}
+use Rattle.std.specs.List.{FoldsTo, concat}
+use Rattle.std.specs.Fmt.{WritesText}
 use Rattle.octets.specs.Octets.{splice}
 use Rattle.octets.proofs.Splice.{splice_none, splice_splice, length_splice, splice_out, splice_fits}
 use Rattle.show.specs.Text.{Page, page_at, laid}
@@ -49,24 +50,19 @@ laid_laid p a b =
     page_path (rw (length_splice p.at a p.bytes, length-append a b) (place p.at (length p.bytes) (length a) (length b)))
     (stored p.at a b p.bytes)
 
--- the same, as one step after another
-pub then : {q r : Page} (p : Page) (a b : List ℕ) → q ≡ laid p a → r ≡ laid q b → r ≡ laid p (a ++ b)
-then p a b e f = f ∙ rw e (laid_laid p a b)
-
--- a text that is another
-pub laid_as : {r : Page} (p : Page) (a b : List ℕ) → a ≡ b → r ≡ laid p a → r ≡ laid p b
-laid_as p a b e f = f ∙ ap (laid p) e
-
--- the text of a test that holds, and of one that does not
-pub laid_t : {r : Page} (p : Page) (t : Bool) (a b : List ℕ) → t ≡ true → r ≡ laid p a → r ≡ laid p (pick t a b)
-laid_t p t a b e f = f ∙ ap (laid p) (pick_t t a a b e refl)
-
-pub laid_f : {r : Page} (p : Page) (t : Bool) (a b : List ℕ) → t ≡ false → r ≡ laid p b → r ≡ laid p (pick t a b)
-laid_f p t a b e f = f ∙ ap (laid p) (pick_f t b a b e refl)
-
 -- a page read up to its place, after a text was laid at its start: the text, where it fits
 pub laid_read : (xs text : List ℕ) → length text ≤ length xs → take (laid (page_at 0 xs) text).at (laid (page_at 0 xs) text).bytes ≡ text
 unfolding laid
 laid_read xs text h =
     let e : 0 + min (length text) (length xs - 0) ≡ length text = omega arith in
     rw (e, splice_fits 0 text xs (omega arith)) (take-append_seam text (drop (0 + length text) xs))
+
+-- texts laid in calls, one behind another, are one text
+module _ {W : Type 0} (took : W → List ℕ → W → Type 0) (read : W → Page) (each : (w : W) (text : List ℕ) (v : W) → took w text v → read v ≡ laid (read w) text) where
+  laid_parts : (parts : List (List ℕ)) (w v : W) → FoldsTo took w parts v → read v ≡ laid (read w) (concat parts)
+  laid_parts [] w v h = rw (sym h) (laid_none (read w))
+  laid_parts (x ∷ xs) w v (j, here, rest) = laid_parts xs j v rest ∙ (ap (λ p. laid p (concat xs)) (each w x j here) ∙ laid_laid (read w) x (concat xs))
+
+  pub laid_written : (o : Option (List ℕ)) (w v : W) → WritesText took w o v → IfSome o (λ text. read v ≡ laid (read w) text)
+  laid_written None w v h = h
+  laid_written (Some text) w v h = laid_parts h.parts w v h.calls ∙ ap (laid (read w)) h.whole

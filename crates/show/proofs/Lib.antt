@@ -1,2 +1,4 @@
-pub mod Laid
 pub mod Texts
+pub mod Laid
+pub mod Numbers
+pub mod Written

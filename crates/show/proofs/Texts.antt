@@ -1,85 +1,58 @@
 -- Laws of digits, bytes and lines: what their loops have at the head, after a turn and at the end.
-use Prim.Native.Nat.{ℕ, zero, suc, ◌+◌, ◌-◌, ◌/◌, ◌%◌, ◌^◌, ◌≤◌, ◌<◌}
+use Prim.Native.Nat.{ℕ, zero, suc, ◌+◌, ◌-◌, ◌/◌, ◌^◌, ◌≤◌, ◌<◌}
 use native.Mathlib.Omega.{arith}
 use native.Mathlib.Nat.{pow-suc}
-use native.Mathlib.Numerals.{add-one}
-use mathlib.Core.Path.{◌≡◌, refl, sym, ap, ◌∙◌}
+use mathlib.Core.Path.{◌≡◌, refl, sym, ap}
 use mathlib.Core.Bool.{Bool, true, false, not}
 use Prim.Native.String.{String}
 use mathlib.Core.List.{List, [], ◌∷◌, ◌++◌, append_assoc, append-nil}
-use lib.Dec.{ltb, leb, eqb}
-use lib.ListN.{length, get_or, set, drop, length-set, length-append, length-drop, drop_of_length-le}
-use lib.Seq.{drop-cons, get_or-set_same, drop-set-lt, drop-drop, append_snoc, take-append_seam, drop_at}
-use borrow.Author.Tests.{lt-ltb, le-ltb, leb-true, leb-false, not-true}
+use lib.Dec.{ltb, eqb}
+use lib.ListN.{length, take, get_or, length-append}
+use Rattle.std.specs.List.{position, position_or_len}
+use Rattle.std.specs.Prelude.{Option}
+use Rattle.std.specs.Option.{unwrap_or}
+use Rattle.std.proofs.lemmas.List.{take_more}
+use lib.Seq.{append_snoc, take-append_seam, drop_at}
+use borrow.Author.Tests.{ltb-false, lt-ltb, not-true}
 use Rattle.picks.specs.Pick.{pick, first, every}
-use Rattle.picks.proofs.Keep.{left, right}
-use Rattle.show.specs.Text.{Page, laid, letters, hex_text, decimal, bytes_text, until_mark, line_of, behind_mark, tabled, entry}
-use Rattle.show.proofs.Laid.{laid_laid}
+use Rattle.picks.proofs.Keep.{left, right, first_le}
+use Rattle.show.specs.Text.{letters, hex_text, decimal, bytes_text, until_mark, line_of, behind_mark, tabled, entry}
 
--- a place of a list after a store there
-pub stored_at : (xs : List ℕ) (i v : ℕ) → i < length xs → drop i (set xs i v) ≡ v ∷ drop (suc i) xs
-stored_at xs i v h =
-    let l : i < length (set xs i v) = rw length-set h in
-    rw (drop-cons (set xs i v) i 0 l, get_or-set_same xs i v 0 h, drop-set-lt (suc i) xs i v (omega arith))
-
--- a number's digits that begin behind the end of a text, and one digit more stored in it
-module _ (n i rest : ℕ) (text : List ℕ) (inv : decimal 20 n ≡ decimal (suc i) rest ++ drop (suc i) text) (h : i < length text) where
-  one_more : decimal 20 n ≡ pick (ltb rest 10) [] (decimal i (rest / 10)) ++ drop i (set text i (48 + rest % 10))
-  unfolding decimal
-  one_more = inv ∙ rw (append_assoc (pick (ltb rest 10) [] (decimal i (rest / 10))) ((48 + rest % 10) ∷ []) (drop (suc i) text), stored_at text i (48 + rest % 10) h)
-
-  pub decimal_more : 10 ≤ rest → decimal 20 n ≡ decimal i (rest / 10) ++ drop i (set text i (48 + rest % 10))
-  unfolding pick
-  decimal_more g = one_more ∙ rw (le-ltb rest 10 g)
-
-  pub decimal_last : rest < 10 → drop i (set text i (48 + rest % 10)) ≡ decimal 20 n
-  unfolding pick
-  decimal_last g = sym (one_more ∙ rw (lt-ltb rest 10 g))
-
-pub decimal_start : (n : ℕ) (text : List ℕ) → length text ≡ 20 → decimal 20 n ≡ decimal 20 n ++ drop 20 text
-decimal_start n text e = rw (drop_of_length-le text {i = 20} (omega arith)) (sym (append-nil (decimal 20 n)))
-
-pub decimal_end : (n i rest : ℕ) (text : List ℕ) → i ≡ 0 → decimal 20 n ≡ decimal i rest ++ drop i text → drop i text ≡ decimal 20 n
-unfolding decimal
-decimal_end n i rest text e inv = rw e (sym (rw e at inv))
-
--- the bytes from a place on, laid behind those before it
-pub bytes_more : (p : Page) (bytes : List ℕ) (i : ℕ) → i < length bytes → laid p (bytes_text (drop i bytes)) ≡ laid (laid p (letters " " ++ hex_text (get_or bytes i 0))) (bytes_text (drop (i + 1) bytes))
+-- the bytes so far, and one more
+bytes_append : (a b : List ℕ) → bytes_text (a ++ b) ≡ bytes_text a ++ bytes_text b
 unfolding bytes_text
-bytes_more p bytes i h =
-    rw (add-one i, drop-cons bytes i 0 h) (sym (laid_laid p (letters " " ++ hex_text (get_or bytes i 0)) (bytes_text (drop (suc i) bytes))))
+bytes_append [] b = refl
+bytes_append (x ∷ a) b = rw (bytes_append a b) (sym (append_assoc (letters " " ++ hex_text x) (bytes_text a) (bytes_text b)))
+
+pub bytes_more : (bytes : List ℕ) (i : ℕ) → i < length bytes → bytes_text (take i bytes) ++ (32 ∷ hex_text (get_or bytes i 0)) ≡ bytes_text (take (i + 1) bytes)
+unfolding bytes_text letters
+bytes_more bytes i h =
+    let b = get_or bytes i 0 in
+    rw (take_more bytes i 0 h, bytes_append (take i bytes) (b ∷ []), append-nil (hex_text b)) refl
+
+-- where a search finds an element, or the length
+place_cons : {A : Type 0} (f : A → Bool) (x : A) (xs : List A) (t : Bool) → f x ≡ t → position_or_len f xs ≡ first f xs → position_or_len f (x ∷ xs) ≡ first f (x ∷ xs)
+unfolding first pick
+place_cons f x xs true e more = rw e refl
+place_cons f x xs false e more = rw e (omega (arith, more))
+
+place_is : {A : Type 0} (f : A → Bool) (xs : List A) → position_or_len f xs ≡ first f xs
+unfolding first
+place_is f [] = refl
+place_is f (x ∷ xs) = place_cons f x xs (f x) refl (place_is f xs)
+
+pub found : {A : Type 0} (f : A → Bool) (xs : List A) (r : Option ℕ) → r ≡ position f xs → unwrap_or r (length xs) ≡ first f xs
+found f xs r e = rw e (go (ltb (position_or_len f xs) (length xs)) refl)
+  where
+    go : (t : Bool) → ltb (position_or_len f xs) (length xs) ≡ t → unwrap_or (position f xs) (length xs) ≡ first f xs
+    go true e = rw e (place_is f xs)
+    go false e = rw e (omega (arith, first_le f xs, place_is f xs, ltb-false _ _ e))
 
 -- a line that is not the first
 pub line_more : (n : ℕ) (text : List ℕ) → 0 < n → line_of n text ≡ line_of (n - 1) (behind_mark 10 text)
 unfolding line_of
 line_more zero text h = absurd (omega arith)
 line_more (suc n) text h = let e : suc n - 1 ≡ n = omega arith in rw e
-
--- an end of a list is what stands behind as many elements as the list has more
-pub drop_again : (k : ℕ) (xs : List ℕ) → drop (length xs - length (drop k xs)) xs ≡ drop k xs
-drop_again k xs = go (leb k (length xs)) refl
-  where
-    go : (t : Bool) → leb k (length xs) ≡ t → drop (length xs - length (drop k xs)) xs ≡ drop k xs
-    go true e =
-        let h : k ≤ length xs = leb-true _ _ e in
-        let f : length xs - length (drop k xs) ≡ k = rw (length-drop k xs) (omega arith) in
-        rw f
-    go false e =
-        let h : length xs < k = leb-false _ _ e in
-        let n : drop k xs ≡ [] = drop_of_length-le xs {i = k} (omega arith) in
-        rw n (drop_of_length-le xs {i = length xs - 0} (omega arith))
-
--- the line behind the one at a place
-module _ (at : ℕ) (text : List ℕ) where
-  pub behind_le : length (behind_mark 10 (drop at text)) ≤ length text
-  unfolding behind_mark
-  behind_le = omega (arith, length-drop (suc (first (λ c. eqb c 10) (drop at text))) (drop at text), length-drop at text)
-
-  pub next_line : drop (length text - length (behind_mark 10 (drop at text))) text ≡ behind_mark 10 (drop at text)
-  unfolding behind_mark
-  next_line =
-      let k = first (λ c. eqb c 10) (drop at text) in
-      rw (drop-drop (suc k) at text) (drop_again (at + suc k) text)
 
 -- a text has no end of line in it
 abbrev pub inline : List ℕ → Bool
@@ -114,8 +87,12 @@ table_line n [] h = line_none n
 table_line zero (s ∷ rest) h = until_end (letters s) (tabled rest) (left (inline (letters s)) _ h)
 table_line (suc n) (s ∷ rest) h = rw (behind_end (letters s) (tabled rest) (left (inline (letters s)) _ h)) (table_line n rest (right (inline (letters s)) _ h))
 
-pub laid_entry : {r : Page} (p : Page) (n : ℕ) (table : List String) → every (λ s. inline (letters s)) table ≡ true → r ≡ laid p (line_of n (tabled table)) → r ≡ laid p (entry n table)
-laid_entry p n table h e = e ∙ ap (laid p) (table_line n table h)
+-- no text stands behind the last
+pub entry_past : (n : ℕ) (list : List String) → length list ≤ n → entry n list ≡ []
+unfolding entry
+entry_past n [] h = refl
+entry_past zero (s ∷ rest) h = absurd (omega arith)
+entry_past (suc n) (s ∷ rest) h = entry_past n rest (omega arith)
 
 -- a number below 10 ^ k has no digit more than k: a u64 is below 10 ^ 20
 pub decimal_whole : (k n : ℕ) → n < 10 ^ suc k → decimal (suc (suc k)) n ≡ decimal (suc k) n

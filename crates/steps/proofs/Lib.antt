@@ -1,1 +1,1 @@
-mod Templates
+pub mod Ids

@@ -1,259 +1,383 @@
 // What a request asks and what an answer gives, in words.
 #![tactic(auto)]
 
-ghost use Rattle.std.specs.Prelude.{◌≡◌};
-ghost use Rattle.show.specs.Text.{page_at, laid};
-ghost use Rattle.steps.specs.Steps.{empty_text, named_text, read_text, amount_of, written_text, write_text, looked_text, coded, own_abort_text, opening_text, acted_text, asked_text, request_text, range_text, piece_text, whole_text, taken_text, other_text, aborted_text, answer_text};
+ghost use Rattle.std.specs.Prelude.{◌≡◌, Some};
+ghost use Rattle.protocol.specs.Command.{id_byte};
+ghost use Rattle.reading.specs.Frame.{size_in};
+ghost use Rattle.steps.specs.Steps.{empty_text, named_text, amount_of, written_text, write_text, looked_text, own_abort_text, opening_text, acted_text, asked_text, request_text, range_text, piece_text, whole_text, taken_text, taken_by, other_text, aborted_text, answer_text};
 
+use protocol::{
+    CommandId, ReceiveConnState, SdoCommand, Segmentation, SendConnState, SequenceLayerHeader,
+};
 use reading::frame::Frame;
 use reading::{Piece, Reading, frame};
+use std::fmt;
+use wording::{Abort, Code, Object};
 
 // A frame without a command.
-fn put_empty(page: &mut [u8], at: usize, f: Frame) -> usize
-    ensures { page_at result page.new ≡ laid (page_at at page.old) (empty_text f) }
+fn empty_step(h: SequenceLayerHeader) -> &'static str
+    ensures { result.now ≡ empty_text h }
 {
-    if f.rcon == 3 {
-        return show::put(page, at, b"asks for the last piece again (error response)");
+    if h.rcon == ReceiveConnState::ErrorResponse {
+        return "asks for the last piece again (error response)";
     }
-    let table = b"an empty frame outside any connection
-opens the connection (initialisation)
-acknowledges
-asks for an acknowledgement
-";
-    show::put_line(page, at, table, f.scon)
+    match h.scon {
+        SendConnState::NoConnection => "an empty frame outside any connection",
+        SendConnState::Initialization => "opens the connection (initialisation)",
+        SendConnState::ConnectionValid => "acknowledges",
+        SendConnState::ConnectionValidAckRequest => "asks for an acknowledgement",
+    }
 }
 
 // The object that a payload names, where it does.
-fn put_named(page: &mut [u8], at: usize, payload: &[u8]) -> usize
-    ensures { page_at result page.new ≡ laid (page_at at page.old) (named_text payload.now) }
-{
-    if payload.len() < 4 {
-        return show::put(page, at, b"an object, without saying which");
-    }
-    wording::put_object(
-        page,
-        at,
-        octets::u16_at(payload, 0),
-        octets::byte_at(payload, 2),
-    )
-}
+#[derive(Clone, Copy)]
+struct Named<'a>(&'a [u8]);
 
-// A read.
-fn put_read(page: &mut [u8], at: usize, payload: &[u8]) -> usize
-    ensures { page_at result page.new ≡ laid (page_at at page.old) (read_text payload.now) }
-{
-    let at = show::put(page, at, b"reads ");
-    put_named(page, at, payload)
+impl fmt::Display for Named<'_> {
+    ghost output = { λ x. Some (named_text x.0.now) };
+
+    fn fmt<W: fmt::Write>(&self, f: &mut fmt::Formatter<W>) -> fmt::Result {
+        let payload = self.0;
+        if payload.len() < 4 {
+            return f.write_str("an object, without saying which");
+        }
+        let index = octets::number_at(payload, 0);
+        let sub = octets::byte_at(payload, 2);
+        write!(f, "{}", Object { index, sub })
+    }
 }
 
 // The bytes of a write that names an object: all of an Initiate's, or those behind the object's name.
-fn amount(f: Frame) -> u64
-    ensures { result ≡ amount_of f }
+fn amount(c: SdoCommand) -> u64
+    ensures { result ≡ amount_of c }
 {
-    if f.segmentation == 1 {
-        return f.total as u64;
+    if c.header.segmentation == Segmentation::Initiate {
+        return u64::from(c.total.unwrap_or(0));
     }
-    if f.size < 4 {
-        return 0;
-    }
-    (f.size - 4) as u64
+    u64::from(c.header.size.saturating_sub(4))
+}
+
+// A command, and its payload.
+#[derive(Clone, Copy)]
+struct Sent<'a> {
+    command: SdoCommand,
+    payload: &'a [u8],
 }
 
 // How many bytes a write has, and its object.
-fn put_written(page: &mut [u8], at: usize, f: Frame, payload: &[u8]) -> usize
-    ensures { page_at result page.new ≡ laid (page_at at page.old) (written_text f payload.now) }
-{
-    let at = show::put_number(page, at, amount(f));
-    let at = show::put(page, at, b" bytes to ");
-    put_named(page, at, payload)
+#[derive(Clone, Copy)]
+struct Written<'a>(Sent<'a>);
+
+impl fmt::Display for Written<'_> {
+    ghost output = { λ x. Some (written_text x.0.command x.0.payload.now) };
+
+    fn fmt<W: fmt::Write>(&self, f: &mut fmt::Formatter<W>) -> fmt::Result {
+        let Sent { command, payload } = self.0;
+        let amount = amount(command);
+        write!(f, "{amount} bytes to {}", Named(payload))
+    }
 }
 
 // A write.
-fn put_write(page: &mut [u8], at: usize, f: Frame, payload: &[u8]) -> usize
-    ensures { page_at result page.new ≡ laid (page_at at page.old) (write_text f payload.now) }
-{
-    let table = b"writes \nbegins to write \nwrites the next bytes\nwrites the last bytes\n";
-    let at = show::put_line(page, at, table, f.segmentation);
-    if f.segmentation < 2 {
-        return put_written(page, at, f, payload);
+#[derive(Clone, Copy)]
+struct Write<'a>(Sent<'a>);
+
+impl fmt::Display for Write<'_> {
+    ghost output = { λ x. Some (write_text x.0.command x.0.payload.now) };
+
+    fn fmt<W: fmt::Write>(&self, f: &mut fmt::Formatter<W>) -> fmt::Result {
+        match self.0.command.header.segmentation {
+            Segmentation::Expedited => write!(f, "writes {}", Written(self.0)),
+            Segmentation::Initiate => write!(f, "begins to write {}", Written(self.0)),
+            Segmentation::Segment => f.write_str("writes the next bytes"),
+            Segmentation::Complete => f.write_str("writes the last bytes"),
+        }
     }
-    at
 }
 
 // A command that the controller looks at.
-fn put_looked(page: &mut [u8], at: usize, f: Frame, payload: &[u8]) -> usize
-    ensures { page_at result page.new ≡ laid (page_at at page.old) (looked_text f payload.now) }
-{
-    if f.id == 0 {
-        return show::put(page, at, b"an empty command (Nil)");
+#[derive(Clone, Copy)]
+struct Looked<'a>(Sent<'a>);
+
+impl fmt::Display for Looked<'_> {
+    ghost output = { λ x. Some (looked_text x.0.command x.0.payload.now) };
+
+    fn fmt<W: fmt::Write>(&self, f: &mut fmt::Formatter<W>) -> fmt::Result {
+        match self.0.command.header.id {
+            CommandId::Nil => f.write_str("an empty command (Nil)"),
+            CommandId::WriteByIndex => write!(f, "{}", Write(self.0)),
+            CommandId::ReadByIndex => write!(f, "reads {}", Named(self.0.payload)),
+            CommandId::MaxSegmentSize => f.write_str("asks how long a piece may be"),
+            _ => f.write_str("a command that this controller does not serve"),
+        }
     }
-    if f.id == 1 {
-        return put_write(page, at, f, payload);
-    }
-    if f.id == 2 {
-        return put_read(page, at, payload);
-    }
-    if f.id == 112 {
-        return show::put(page, at, b"asks how long a piece may be");
-    }
-    show::put(page, at, b"a command that this controller does not serve")
 }
 
-// The code of the client's own abort.
-fn put_coded(page: &mut [u8], at: usize, code: u32) -> usize
-    ensures { page_at result page.new ≡ laid (page_at at page.old) (coded code) }
-{
-    let at = show::put(page, at, b" with code ");
-    wording::put_code(page, at, code)
-}
+// The client's own abort, with its code where it has one.
+#[derive(Clone, Copy)]
+struct OwnAbort<'a>(&'a [u8]);
 
-// The client's own abort.
-fn put_own_abort(page: &mut [u8], at: usize, payload: &[u8]) -> usize
-    ensures { page_at result page.new ≡ laid (page_at at page.old) (own_abort_text payload.now) }
-{
-    let at = show::put(page, at, b"aborts");
-    if 3 < payload.len() {
-        return put_coded(page, at, octets::u32_at(payload, 0));
+impl fmt::Display for OwnAbort<'_> {
+    ghost output = { λ x. Some (own_abort_text x.0.now) };
+
+    fn fmt<W: fmt::Write>(&self, f: &mut fmt::Formatter<W>) -> fmt::Result {
+        let payload = self.0;
+        if payload.len() < 4 {
+            return f.write_str("aborts");
+        }
+        write!(
+            f,
+            "aborts with code {}",
+            Code(octets::number_at(payload, 0))
+        )
     }
-    at
 }
 
 // Where a command comes with the opening.
-fn put_opening(page: &mut [u8], at: usize, f: Frame) -> usize
-    ensures { page_at result page.new ≡ laid (page_at at page.old) (opening_text f) }
+fn opening(h: SequenceLayerHeader) -> &'static str
+    ensures { result.now ≡ opening_text h }
 {
-    if f.scon == 1 {
-        return show::put(page, at, b"opens the connection (initialisation) and ");
+    if h.scon == SendConnState::Initialization {
+        return "opens the connection (initialisation) and ";
     }
-    at
+    ""
 }
 
-// A command, and the client's own abort.
-fn put_acted(page: &mut [u8], at: usize, f: Frame, payload: &[u8]) -> usize
-    ensures { page_at result page.new ≡ laid (page_at at page.old) (acted_text f payload.now) }
-{
-    let at = put_opening(page, at, f);
-    if f.aborted {
-        return put_own_abort(page, at, payload);
+// A command behind a header: what it asks, or that it is the client's own abort.
+#[derive(Clone, Copy)]
+struct Acted<'a> {
+    header: SequenceLayerHeader,
+    sent: Sent<'a>,
+}
+
+impl fmt::Display for Acted<'_> {
+    ghost output = { λ x. Some (acted_text x.header x.sent.command x.sent.payload.now) };
+
+    fn fmt<W: fmt::Write>(&self, f: &mut fmt::Formatter<W>) -> fmt::Result {
+        let Acted { header, sent } = *self;
+        let opening = opening(header);
+        if sent.command.header.aborted {
+            return write!(f, "{opening}{}", OwnAbort(sent.payload));
+        }
+        write!(f, "{opening}{}", Looked(sent))
     }
-    put_looked(page, at, f, payload)
 }
 
 // A frame with a command.
-fn put_asked(page: &mut [u8], at: usize, f: Frame, payload: &[u8]) -> usize
-    ensures { page_at result page.new ≡ laid (page_at at page.old) (asked_text f payload.now) }
-{
-    if f.rcon == 3 {
-        let text = b"asks for the last piece again (error response); the command is not looked at";
-        return show::put(page, at, text);
+#[derive(Clone, Copy)]
+struct Asked<'a>(Acted<'a>);
+
+impl fmt::Display for Asked<'_> {
+    ghost output = { λ x. Some (asked_text x.0.header x.0.sent.command x.0.sent.payload.now) };
+
+    fn fmt<W: fmt::Write>(&self, f: &mut fmt::Formatter<W>) -> fmt::Result {
+        if self.0.header.rcon == ReceiveConnState::ErrorResponse {
+            let again =
+                "asks for the last piece again (error response); the command is not looked at";
+            return f.write_str(again);
+        }
+        write!(f, "{}", self.0)
     }
-    put_acted(page, at, f, payload)
 }
 
 // What a request asks.
-pub fn put_request(page: &mut [u8], at: usize, f: Frame, bytes: &[u8]) -> usize
-    ensures { page_at result page.new ≡ laid (page_at at page.old) (request_text f bytes.now) }
-{
-    if f.kind == frame::SHORT {
-        return show::put(page, at, b"a frame too short to be one");
-    }
-    if f.kind == frame::EMPTY {
-        return put_empty(page, at, f);
-    }
-    if f.kind == frame::COMMAND {
-        return put_asked(page, at, f, frame::payload(f, bytes));
-    }
-    show::put(page, at, b"a command that cannot be read")
+#[derive(Clone, Copy)]
+pub struct Request<'a> {
+    pub frame: Frame,
+    pub bytes: &'a [u8],
 }
 
-// Which bytes of an object the last n of those sent are.
-fn put_range(page: &mut [u8], at: usize, r: Reading, n: usize) -> usize
-    ensures { page_at result page.new ≡ laid (page_at at page.old) (range_text r n) }
-{
-    let sent = r.sent as usize;
-    if sent < n {
-        return at;
+impl fmt::Display for Request<'_> {
+    ghost output = { λ x. Some (request_text x.frame x.bytes.now) };
+
+    fn fmt<W: fmt::Write>(&self, f: &mut fmt::Formatter<W>) -> fmt::Result {
+        let Request { frame, bytes } = *self;
+        match frame {
+            Frame::Short => f.write_str("a frame too short to be one"),
+            Frame::Empty(header) => f.write_str(empty_step(header)),
+            Frame::Unreadable(_) => f.write_str("a command that cannot be read"),
+            Frame::Command(header, command) => {
+                let payload = frame::payload(frame, bytes);
+                let sent = Sent { command, payload };
+                write!(f, "{}", Asked(Acted { header, sent }))
+            }
+        }
     }
-    let numbers = [(sent - n) as u64 + 1, sent as u64, r.total as u64];
-    template::put(page, at, b": bytes # to # of #", &numbers)
 }
 
-// A piece of n bytes, once it is sent. Without a size its reading began where the recording does not show it.
-fn put_piece(page: &mut [u8], at: usize, what: &[u8], r: Reading, n: usize) -> usize
-    ensures { page_at result page.new ≡ laid (page_at at page.old) (piece_text what.now r n) }
-{
-    let at = show::put(page, at, what);
-    if r.total == 0 {
-        return show::put(
-            page,
-            at,
-            b"a reading whose beginning the recording does not show",
-        );
+// Which bytes of an object the last of those sent are, of a piece's length.
+#[derive(Clone, Copy)]
+struct Range {
+    reading: Reading,
+    length: usize,
+}
+
+impl fmt::Display for Range {
+    ghost output = { λ x. Some (range_text x.reading x.length) };
+
+    fn fmt<W: fmt::Write>(&self, f: &mut fmt::Formatter<W>) -> fmt::Result {
+        let Reading { sent, total, .. } = self.reading;
+        let last = sent as usize;
+        if last < self.length {
+            return Ok(());
+        }
+        let first = last - self.length + 1;
+        write!(f, ": bytes {first} to {last} of {total}")
     }
-    let at = wording::put_object(page, at, r.index, r.sub);
-    put_range(page, at, r, n)
+}
+
+// A piece of a length, once it is sent. Without a size its reading began where the recording does not show it.
+#[derive(Clone, Copy)]
+struct Part<'a> {
+    what: &'a str,
+    reading: Reading,
+    length: usize,
+}
+
+impl fmt::Display for Part<'_> {
+    ghost output = { λ x. Some (piece_text x.what.now x.reading x.length) };
+
+    fn fmt<W: fmt::Write>(&self, f: &mut fmt::Formatter<W>) -> fmt::Result {
+        let Part {
+            what,
+            reading,
+            length,
+        } = *self;
+        if reading.total == 0 {
+            return write!(
+                f,
+                "{what}a reading whose beginning the recording does not show"
+            );
+        }
+        let object = Object {
+            index: reading.index,
+            sub: reading.sub,
+        };
+        write!(f, "{what}{object}{}", Range { reading, length })
+    }
 }
 
 // A value that is sent whole.
-fn put_whole(page: &mut [u8], at: usize, r: Reading) -> usize
-    ensures { page_at result page.new ≡ laid (page_at at page.old) (whole_text r) }
-{
-    let numbers = [r.index as u64, r.sub as u64, r.sent as u64];
-    let words = b"the whole value of object & hex, sub-index #: # bytes";
-    template::put(page, at, words, &numbers)
+#[derive(Clone, Copy)]
+struct Whole(Reading);
+
+impl fmt::Display for Whole {
+    ghost output = { λ x. Some (whole_text x.0) };
+
+    fn fmt<W: fmt::Write>(&self, f: &mut fmt::Formatter<W>) -> fmt::Result {
+        let Reading {
+            index,
+            sub,
+            sent,
+            ..
+        } = self.0;
+        write!(
+            f,
+            "the whole value of {}: {sent} bytes",
+            Object { index, sub }
+        )
+    }
 }
 
 // An answer that is no piece of an upload and no abort, to a command.
-fn put_taken(page: &mut [u8], at: usize, id: u8) -> usize
-    ensures { page_at result page.new ≡ laid (page_at at page.old) (taken_text id) }
+fn taken(id: CommandId) -> &'static str
+    ensures { result.now ≡ taken_text (id_byte id) }
 {
-    if id == 1 {
-        return show::put(page, at, b"the write is accepted");
+    match id {
+        CommandId::WriteByIndex => "the write is accepted",
+        CommandId::MaxSegmentSize => "the client's size, and 1452 bytes",
+        _ => "takes note",
     }
-    if id == 112 {
-        return show::put(page, at, b"the client's size, and 1452 bytes");
+}
+
+// An answer that is no piece of an upload and no abort, by what it answers.
+fn taken_by(request: Frame) -> &'static str
+    ensures { result.now ≡ taken_by request }
+{
+    match request {
+        Frame::Empty(_) => "takes note; there is nothing to send",
+        Frame::Command(_, command) => taken(command.header.id),
+        Frame::Short | Frame::Unreadable(_) => "takes note",
     }
-    show::put(page, at, b"takes note")
 }
 
 // An answer that is no piece of an upload and no abort.
-fn put_other(page: &mut [u8], at: usize, q: Frame, a: Frame) -> usize
-    ensures { page_at result page.new ≡ laid (page_at at page.old) (other_text q a) }
+fn other(request: Frame, answer: Frame) -> &'static str
+    ensures { result.now ≡ other_text request answer }
 {
-    if !a.response {
-        return show::put(page, at, b"takes note, and has no piece to send again");
+    let Frame::Command(header, command) = answer else {
+        return "takes note, and has no piece to send again";
+    };
+    if !command.header.response {
+        return "takes note, and has no piece to send again";
     }
-    if a.scon == 1 {
-        return show::put(page, at, b"accepts the opening");
+    if header.scon == SendConnState::Initialization {
+        return "accepts the opening";
     }
-    if q.kind == frame::EMPTY {
-        return show::put(page, at, b"takes note; there is nothing to send");
-    }
-    put_taken(page, at, q.id)
+    taken_by(request)
 }
 
 // An abort as an answer: without a code it confirms the client's own.
-fn put_aborted(page: &mut [u8], at: usize, a: Frame, code: u32) -> usize
-    ensures { page_at result page.new ≡ laid (page_at at page.old) (aborted_text a code) }
-{
-    if a.size < 4 {
-        return show::put(page, at, b"confirms the abort");
+#[derive(Clone, Copy)]
+struct Aborted {
+    frame: Frame,
+    code: u32,
+}
+
+impl fmt::Display for Aborted {
+    ghost output = { λ x. Some (aborted_text x.frame x.code) };
+
+    fn fmt<W: fmt::Write>(&self, f: &mut fmt::Formatter<W>) -> fmt::Result {
+        if frame::size(self.frame) < 4 {
+            return f.write_str("confirms the abort");
+        }
+        write!(f, "ABORT {}", Abort(self.code))
     }
-    let at = show::put(page, at, b"ABORT ");
-    wording::put_abort(page, at, code)
 }
 
 // What an answer gives, and how much of the object is sent then.
-pub fn put_answer(page: &mut [u8], at: usize, q: Frame, a: Frame, p: Piece, r: Reading) -> usize
-    ensures { page_at result page.new ≡ laid (page_at at page.old) (answer_text q a p r) }
-{
-    match p {
-        Piece::Other => put_other(page, at, q, a),
-        Piece::Whole => put_whole(page, at, r),
-        Piece::First(total) => put_piece(page, at, b"the first piece of ", r, a.size),
-        Piece::Next => put_piece(page, at, b"the next piece of ", r, a.size),
-        Piece::Last => put_piece(page, at, b"the last piece of ", r, a.size),
-        Piece::Again => put_piece(page, at, b"once more the last piece sent, of ", r, a.size),
-        Piece::Abort(code) => put_aborted(page, at, a, code),
+#[derive(Clone, Copy)]
+pub struct Answer {
+    pub request: Frame,
+    pub frame: Frame,
+    pub piece: Piece,
+    pub reading: Reading,
+}
+
+impl Answer {
+    // The text of a piece that the answer has.
+    fn part<'a>(&self, what: &'a str) -> Part<'a>
+        ensures what { result.what.now ≡ what.now }
+        ensures reading { result.reading ≡ self.now.reading }
+        ensures length { result.length ≡ size_in self.now.frame }
+    {
+        Part {
+            what,
+            reading: self.reading,
+            length: usize::from(frame::size(self.frame)),
+        }
+    }
+}
+
+impl fmt::Display for Answer {
+    ghost output = { λ x. Some (answer_text x.request x.frame x.piece x.reading) };
+
+    fn fmt<W: fmt::Write>(&self, f: &mut fmt::Formatter<W>) -> fmt::Result {
+        match self.piece {
+            Piece::Other => f.write_str(other(self.request, self.frame)),
+            Piece::Whole => write!(f, "{}", Whole(self.reading)),
+            Piece::First(_) => write!(f, "{}", self.part("the first piece of ")),
+            Piece::Next => write!(f, "{}", self.part("the next piece of ")),
+            Piece::Last => write!(f, "{}", self.part("the last piece of ")),
+            Piece::Again => write!(f, "{}", self.part("once more the last piece sent, of ")),
+            Piece::Abort(code) => write!(
+                f,
+                "{}",
+                Aborted {
+                    frame: self.frame,
+                    code
+                }
+            ),
+        }
     }
 }

@@ -17,7 +17,13 @@ use Rattle.protocol.specs.Constants.{
   NO_SUB_INDEX,
   GENERAL_ERROR,
 }
+use Rattle.protocol.specs.declared.SequenceLayerHeader.{SequenceLayerHeader}
+use Rattle.protocol.specs.declared.CommandLayerHeader.{CommandLayerHeader}
+use Rattle.protocol.specs.declared.SdoCommand.{SdoCommand}
+use Rattle.protocol.specs.SequenceHeader.{receive_mark, send_mark}
+use Rattle.protocol.specs.Command.{segmentation_number, id_byte, total_number}
 use Rattle.reading.specs.declared.frame.Frame.{Frame}
+use Rattle.reading.specs.declared.frame.Frame.TheVariants.{Short, Empty, Unreadable, Command}
 
 -- a clock of microseconds, in seconds
 unfoldable pub clock_text : ℕ → List ℕ
@@ -133,44 +139,48 @@ receive_marks = " (no connection)" ∷ " (initialisation)" ∷ " (valid)" ∷ " 
 abbrev pub send_marks : List String
 send_marks = " (no connection)" ∷ " (initialisation)" ∷ " (valid)" ∷ " (valid, please acknowledge)" ∷ []
 
-unfoldable pub header_text : Frame → List ℕ
-header_text f =
+unfoldable pub header_text : SequenceLayerHeader → List ℕ
+header_text h =
     letters "\n    header:  receive "
-    ++ decimal_text f.receive
-    ++ entry f.rcon receive_marks
+    ++ decimal_text h.receive
+    ++ entry (receive_mark h.rcon) receive_marks
     ++ letters ", send "
-    ++ decimal_text f.send
-    ++ entry f.scon send_marks
+    ++ decimal_text h.send
+    ++ entry (send_mark h.scon) send_marks
 
 -- the command's kind: its name, its segmentation, and a word for each flag that is set
 abbrev pub segmentations : List String
 segmentations = ", Expedited" ∷ ", Initiate" ∷ ", Segment" ∷ ", Complete" ∷ []
 
-unfoldable pub kind_text : Frame → List ℕ
-kind_text f =
+unfoldable pub kind_text : CommandLayerHeader → List ℕ
+kind_text h =
     letters "\n    command: "
-    ++ id_text f.id
-    ++ entry f.segmentation segmentations
-    ++ pick f.response (letters ", response") []
-    ++ pick f.aborted (letters ", aborted") []
+    ++ id_text (id_byte h.id)
+    ++ entry (segmentation_number h.segmentation) segmentations
+    ++ pick h.response (letters ", response") []
+    ++ pick h.aborted (letters ", aborted") []
 
 -- the size that an Initiate carries
-unfoldable pub total_text : Frame → List ℕ
-total_text f = pick (eqb f.segmentation 1) (letters ", " ++ decimal_text f.total ++ letters " bytes in all") []
+unfoldable pub total_text : SdoCommand → List ℕ
+total_text c =
+    pick (eqb (segmentation_number c.header.segmentation) 1) (letters ", " ++ decimal_text (total_number c.total) ++ letters " bytes in all") []
 
-unfoldable pub command_text : Frame → List ℕ
-command_text f =
-    kind_text f
+unfoldable pub command_text : SdoCommand → List ℕ
+command_text c =
+    kind_text c.header
     ++ letters ", transaction "
-    ++ decimal_text f.transaction
-    ++ total_text f
+    ++ decimal_text c.header.transaction
+    ++ total_text c
     ++ letters ", "
-    ++ decimal_text f.size
+    ++ decimal_text c.header.size
     ++ letters " bytes of data"
 
 -- what a frame has: a header unless it is too short, a command or none
-unfoldable pub decoded_text : Frame → List ℕ
-decoded_text f = pick (eqb f.kind 0) [] (header_text f ++ pick (eqb f.kind 2) (command_text f) [])
+abbrev pub decoded_text : Frame → List ℕ
+decoded_text Short = []
+decoded_text (Empty h) = header_text h
+decoded_text (Unreadable h) = header_text h
+decoded_text (Command h c) = header_text h ++ command_text c
 
 -- a frame decoded, and its first bytes
 unfoldable pub frame_text : Frame → List ℕ → List ℕ

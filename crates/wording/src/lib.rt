@@ -1,267 +1,329 @@
-// Clients, clocks, frames, refusals and aborts in words for a trainer, laid on a page.
+// Clients, clocks, frames, refusals and aborts in words for a trainer.
 #![tactic(auto)]
 
-ghost use Rattle.std.specs.Prelude.{◌≡◌, []};
+ghost use Rattle.std.specs.Prelude.{◌≡◌, [], Some};
 ghost use Rattle.picks.specs.Pick.{pick};
-ghost use Rattle.show.specs.Text.{page_at, laid, entry};
-ghost use Rattle.wording.specs.Words.{clock_text, node_text, port_text, client_text, code_text, object_text, texts_of, meanings, unknown_code, meaning, abort_text, refusal_text, names, id_text, header_text, kind_text, total_text, command_text, decoded_text, frame_text};
+ghost use Rattle.protocol.specs.SequenceHeader.{receive_mark, send_mark};
+ghost use Rattle.protocol.specs.Command.{id_byte, segmentation_number};
+ghost use Rattle.show.specs.Text.{entry};
+ghost use Rattle.wording.specs.Words.{clock_text, mac_text, client_text, code_text, object_text, meaning, abort_text, refusals, refusal_text, id_text, receive_marks, send_marks, header_text, segmentations, kind_text, total_text, command_text, decoded_text, frame_text};
 
-use protocol::SdoClientInfo;
-use reading::frame;
+use protocol::{
+    CommandId, CommandLayerHeader, ReceiveConnState, SdoClientInfo, SdoCommand, Segmentation,
+    SendConnState, SequenceLayerHeader,
+};
 use reading::frame::Frame;
+use show::Start;
+use std::fmt;
+use std::net::Ipv4Addr;
 
 // A clock of microseconds, in seconds.
-pub fn put_clock(page: &mut [u8], at: usize, clock: u64) -> usize
-    ensures { page_at result page.new ≡ laid (page_at at page.old) (clock_text clock) }
-{
-    template::put(page, at, b"#.^ s", &[clock / 1000000, clock])
+#[derive(Clone, Copy)]
+pub struct Clock(pub u64);
+
+impl fmt::Display for Clock {
+    ghost output = { λ x. Some (clock_text x.0) };
+
+    fn fmt<W: fmt::Write>(&self, f: &mut fmt::Formatter<W>) -> fmt::Result {
+        let seconds = self.0 / 1000000;
+        let rest = self.0 % 1000000;
+        write!(f, "{seconds}.{rest:06} s")
+    }
 }
 
-// A client on the raw network.
-fn put_node(page: &mut [u8], at: usize, node: u8, mac: u64) -> usize
-    ensures { page_at result page.new ≡ laid (page_at at page.old) (node_text node mac) }
-{
-    let numbers = [
-        node as u64,
-        mac / 1099511627776,
-        mac / 4294967296,
-        mac / 16777216,
-        mac / 65536,
-        mac / 256,
-        mac,
-    ];
-    template::put(page, at, b"node # (MAC @-@-@-@-@-@)", &numbers)
+// The six bytes of a MAC address.
+#[derive(Clone, Copy)]
+struct Mac(u64);
+
+impl fmt::Display for Mac {
+    ghost output = { λ x. Some (mac_text x.0) };
+
+    fn fmt<W: fmt::Write>(&self, f: &mut fmt::Formatter<W>) -> fmt::Result {
+        let [_, _, a, b, c, d, e, g] = self.0.to_be_bytes();
+        write!(f, "{a:02X}-{b:02X}-{c:02X}-{d:02X}-{e:02X}-{g:02X}")
+    }
 }
 
-// A client over UDP.
-fn put_port(page: &mut [u8], at: usize, ip: u32, port: u16) -> usize
-    ensures { page_at result page.new ≡ laid (page_at at page.old) (port_text ip port) }
-{
-    let ip = ip as u64;
-    let numbers = [
-        ip / 16777216,
-        ip / 65536 % 256,
-        ip / 256 % 256,
-        ip % 256,
-        port as u64,
-    ];
-    template::put(page, at, b"#.#.#.# port #", &numbers)
-}
+// A client: on the raw network, or over UDP.
+#[derive(Clone, Copy)]
+pub struct Client(pub SdoClientInfo);
 
-// A client.
-pub fn put_client(page: &mut [u8], at: usize, client: SdoClientInfo) -> usize
-    ensures { page_at result page.new ≡ laid (page_at at page.old) (client_text client) }
-{
-    match client {
-        SdoClientInfo::Asnd { node, mac } => put_node(page, at, node, mac),
-        SdoClientInfo::Udp { ip, port } => put_port(page, at, ip, port),
+impl fmt::Display for Client {
+    ghost output = { λ x. Some (client_text x.0) };
+
+    fn fmt<W: fmt::Write>(&self, f: &mut fmt::Formatter<W>) -> fmt::Result {
+        match self.0 {
+            SdoClientInfo::Asnd { node, mac } => write!(f, "node {node} (MAC {})", Mac(mac)),
+            SdoClientInfo::Udp { ip, port } => write!(f, "{} port {port}", Ipv4Addr::from(ip)),
+        }
     }
 }
 
 // An object.
-pub fn put_object(page: &mut [u8], at: usize, index: u16, sub: u8) -> usize
-    ensures { page_at result page.new ≡ laid (page_at at page.old) (object_text index sub) }
-{
-    template::put(
-        page,
-        at,
-        b"object & hex, sub-index #",
-        &[index as u64, sub as u64],
-    )
+#[derive(Clone, Copy)]
+pub struct Object {
+    pub index: u16,
+    pub sub: u8,
+}
+
+impl fmt::Display for Object {
+    ghost output = { λ x. Some (object_text x.index x.sub) };
+
+    fn fmt<W: fmt::Write>(&self, f: &mut fmt::Formatter<W>) -> fmt::Result {
+        let Object { index, sub } = *self;
+        write!(f, "object {index:04X} hex, sub-index {sub}")
+    }
 }
 
 // A number in eight hex digits.
-pub fn put_code(page: &mut [u8], at: usize, code: u32) -> usize
-    ensures { page_at result page.new ≡ laid (page_at at page.old) (code_text code) }
-{
-    template::put(page, at, b"*", &[code as u64])
-}
+#[derive(Clone, Copy)]
+pub struct Code(pub u32);
 
-// The place of an abort's code in the table of their meanings.
-fn code_place(code: u32) -> u8
-    ensures { entry result (texts_of meanings unknown_code) ≡ meaning code }
-{
-    match code {
-        0x05040000 => 1,
-        0x05040001 => 2,
-        0x05040003 => 3,
-        0x05040005 => 4,
-        0x06010002 => 5,
-        0x06020000 => 6,
-        0x06070010 => 7,
-        0x06070013 => 8,
-        0x06090011 => 9,
-        0x08000000 => 10,
-        _ => 0,
+impl fmt::Display for Code {
+    ghost output = { λ x. Some (code_text x.0) };
+
+    fn fmt<W: fmt::Write>(&self, f: &mut fmt::Formatter<W>) -> fmt::Result {
+        let Code(code) = *self;
+        write!(f, "{code:08X}")
     }
 }
 
 // The meaning of an abort's code.
-fn put_meaning(page: &mut [u8], at: usize, code: u32) -> usize
-    ensures { page_at result page.new ≡ laid (page_at at page.old) (meaning code) }
+fn meaning_of(code: u32) -> &'static str
+    ensures { result.now ≡ meaning code }
 {
-    let table = b"a code that the controller never sends
-the transfer took too long: a piece was not acknowledged in time
-the command is unknown or cannot be read
-this command does not belong here: no such transfer is running, or it must be acknowledged first
-there is no room for so many bytes
-the object may only be read
-there is no such object
-the object does not have this length
-too few bytes for the object
-the object has no such sub-index
-another transfer of this client is running
-";
-    show::put_line(page, at, table, code_place(code))
+    match code {
+        0x05040000 => "the transfer took too long: a piece was not acknowledged in time",
+        0x05040001 => "the command is unknown or cannot be read",
+        0x05040003 =>
+            "this command does not belong here: no such transfer is running, or it must be acknowledged first",
+        0x05040005 => "there is no room for so many bytes",
+        0x06010002 => "the object may only be read",
+        0x06020000 => "there is no such object",
+        0x06070010 => "the object does not have this length",
+        0x06070013 => "too few bytes for the object",
+        0x06090011 => "the object has no such sub-index",
+        0x08000000 => "another transfer of this client is running",
+        _ => "a code that the controller never sends",
+    }
 }
 
 // An abort's code and its meaning.
-pub fn put_abort(page: &mut [u8], at: usize, code: u32) -> usize
-    ensures { page_at result page.new ≡ laid (page_at at page.old) (abort_text code) }
+#[derive(Clone, Copy)]
+pub struct Abort(pub u32);
+
+impl fmt::Display for Abort {
+    ghost output = { λ x. Some (abort_text x.0) };
+
+    fn fmt<W: fmt::Write>(&self, f: &mut fmt::Formatter<W>) -> fmt::Result {
+        let Abort(code) = *self;
+        write!(f, "{}: {}", Code(code), meaning_of(code))
+    }
+}
+
+// The meaning of a refusal's number.
+fn refusal_of(number: u8) -> &'static str
+    ensures { result.now ≡ entry number refusals }
 {
-    let at = put_code(page, at, code);
-    let at = show::put(page, at, b": ");
-    put_meaning(page, at, code)
+    match number {
+        1 => "the bench lent the controller a buffer of a wrong length",
+        2 => "the dictionary image is not sound",
+        3 => "the table of connections is not sound",
+        4 => "the clock is above its limit",
+        5 => "the frame is shorter than its header of four bytes",
+        6 => "the frame is longer than 1500 bytes",
+        7 => "eight clients are connected already",
+        8 =>
+            "the frame's number is neither the next one nor the last one, or the frame does not confirm the opening",
+        9 => "an empty frame that neither acknowledges nor asks again",
+        _ => "",
+    }
 }
 
 // A refusal's number and its meaning.
-pub fn put_refusal(page: &mut [u8], at: usize, number: u8) -> usize
-    ensures { page_at result page.new ≡ laid (page_at at page.old) (refusal_text number) }
-{
-    let table = b"
-the bench lent the controller a buffer of a wrong length
-the dictionary image is not sound
-the table of connections is not sound
-the clock is above its limit
-the frame is shorter than its header of four bytes
-the frame is longer than 1500 bytes
-eight clients are connected already
-the frame's number is neither the next one nor the last one, or the frame does not confirm the opening
-an empty frame that neither acknowledges nor asks again
-";
-    let at = show::put_number(page, at, number as u64);
-    let at = show::put(page, at, b": ");
-    show::put_line(page, at, table, number)
-}
+#[derive(Clone, Copy)]
+pub struct Refused(pub u8);
 
-// The place of a command's id in the table of their names.
-fn id_place(id: u8) -> u8
-    ensures { entry result (texts_of names "Nil") ≡ id_text id }
-{
-    match id {
-        0x01 => 1,
-        0x02 => 2,
-        0x03 => 3,
-        0x04 => 4,
-        0x05 => 5,
-        0x06 => 6,
-        0x20 => 7,
-        0x21 => 8,
-        0x31 => 9,
-        0x32 => 10,
-        0x40 => 11,
-        0x70 => 12,
-        _ => 0,
+impl fmt::Display for Refused {
+    ghost output = { λ x. Some (refusal_text x.0) };
+
+    fn fmt<W: fmt::Write>(&self, f: &mut fmt::Formatter<W>) -> fmt::Result {
+        let Refused(number) = *self;
+        write!(f, "{number}: {}", refusal_of(number))
     }
 }
 
 // A command's name.
-fn put_id(page: &mut [u8], at: usize, id: u8) -> usize
-    ensures { page_at result page.new ≡ laid (page_at at page.old) (id_text id) }
+fn name_of(id: CommandId) -> &'static str
+    ensures { result.now ≡ id_text (id_byte id) }
 {
-    let table = b"Nil
-WriteByIndex
-ReadByIndex
-WriteAllByIndex
-ReadAllByIndex
-WriteByName
-ReadByName
-FileWrite
-FileRead
-WriteMultipleParamByIndex
-ReadMultipleParamByIndex
-Abort
-MaxSegmentSize
-";
-    show::put_line(page, at, table, id_place(id))
+    match id {
+        CommandId::Nil => "Nil",
+        CommandId::WriteByIndex => "WriteByIndex",
+        CommandId::ReadByIndex => "ReadByIndex",
+        CommandId::WriteAllByIndex => "WriteAllByIndex",
+        CommandId::ReadAllByIndex => "ReadAllByIndex",
+        CommandId::WriteByName => "WriteByName",
+        CommandId::ReadByName => "ReadByName",
+        CommandId::FileWrite => "FileWrite",
+        CommandId::FileRead => "FileRead",
+        CommandId::WriteMultipleParamByIndex => "WriteMultipleParamByIndex",
+        CommandId::ReadMultipleParamByIndex => "ReadMultipleParamByIndex",
+        CommandId::Abort => "Abort",
+        CommandId::MaxSegmentSize => "MaxSegmentSize",
+    }
+}
+
+// The word of a sequence header's receive mark.
+fn received(mark: ReceiveConnState) -> &'static str
+    ensures { result.now ≡ entry (receive_mark mark) receive_marks }
+{
+    match mark {
+        ReceiveConnState::NoConnection => " (no connection)",
+        ReceiveConnState::Initialization => " (initialisation)",
+        ReceiveConnState::ConnectionValid => " (valid)",
+        ReceiveConnState::ErrorResponse => " (error response)",
+    }
+}
+
+// The word of its send mark.
+fn sent(mark: SendConnState) -> &'static str
+    ensures { result.now ≡ entry (send_mark mark) send_marks }
+{
+    match mark {
+        SendConnState::NoConnection => " (no connection)",
+        SendConnState::Initialization => " (initialisation)",
+        SendConnState::ConnectionValid => " (valid)",
+        SendConnState::ConnectionValidAckRequest => " (valid, please acknowledge)",
+    }
 }
 
 // The sequence header's numbers and marks.
-fn put_header(page: &mut [u8], at: usize, f: Frame) -> usize
-    ensures { page_at result page.new ≡ laid (page_at at page.old) (header_text f) }
+#[derive(Clone, Copy)]
+struct Header(SequenceLayerHeader);
+
+impl fmt::Display for Header {
+    ghost output = { λ x. Some (header_text x.0) };
+
+    fn fmt<W: fmt::Write>(&self, f: &mut fmt::Formatter<W>) -> fmt::Result {
+        let SequenceLayerHeader {
+            receive,
+            rcon,
+            send,
+            scon,
+        } = self.0;
+        let received = received(rcon);
+        let sent = sent(scon);
+        write!(
+            f,
+            "\n    header:  receive {receive}{received}, send {send}{sent}"
+        )
+    }
+}
+
+// The word of a command's segmentation.
+fn segmentation_of(segmentation: Segmentation) -> &'static str
+    ensures { result.now ≡ entry (segmentation_number segmentation) segmentations }
 {
-    let receive = b" (no connection)\n (initialisation)\n (valid)\n (error response)\n";
-    let send = b" (no connection)\n (initialisation)\n (valid)\n (valid, please acknowledge)\n";
-    let at = show::put(page, at, b"\n    header:  receive ");
-    let at = show::put_number(page, at, f.receive as u64);
-    let at = show::put_line(page, at, receive, f.rcon);
-    let at = show::put(page, at, b", send ");
-    let at = show::put_number(page, at, f.send as u64);
-    show::put_line(page, at, send, f.scon)
+    match segmentation {
+        Segmentation::Expedited => ", Expedited",
+        Segmentation::Initiate => ", Initiate",
+        Segmentation::Segment => ", Segment",
+        Segmentation::Complete => ", Complete",
+    }
 }
 
 // A word where a flag is set.
-fn put_flag(page: &mut [u8], at: usize, flag: bool, word: &[u8]) -> usize
-    ensures { page_at result page.new ≡ laid (page_at at page.old) (pick flag word.now []) }
+fn flagged(flag: bool, word: &str) -> &str
+    ensures { result.now ≡ pick flag word.now [] }
 {
-    if flag {
-        return show::put(page, at, word);
-    }
-    at
+    if flag { word } else { "" }
 }
 
 // The command's kind: its name, its segmentation and its flags.
-fn put_kind(page: &mut [u8], at: usize, f: Frame) -> usize
-    ensures { page_at result page.new ≡ laid (page_at at page.old) (kind_text f) }
-{
-    let table = b", Expedited\n, Initiate\n, Segment\n, Complete\n";
-    let at = show::put(page, at, b"\n    command: ");
-    let at = put_id(page, at, f.id);
-    let at = show::put_line(page, at, table, f.segmentation);
-    let at = put_flag(page, at, f.response, b", response");
-    put_flag(page, at, f.aborted, b", aborted")
+#[derive(Clone, Copy)]
+struct Kind(CommandLayerHeader);
+
+impl fmt::Display for Kind {
+    ghost output = { λ x. Some (kind_text x.0) };
+
+    fn fmt<W: fmt::Write>(&self, f: &mut fmt::Formatter<W>) -> fmt::Result {
+        let Kind(header) = *self;
+        let name = name_of(header.id);
+        let segmentation = segmentation_of(header.segmentation);
+        let response = flagged(header.response, ", response");
+        let aborted = flagged(header.aborted, ", aborted");
+        write!(f, "\n    command: {name}{segmentation}{response}{aborted}")
+    }
 }
 
 // The size that an Initiate carries.
-fn put_total(page: &mut [u8], at: usize, f: Frame) -> usize
-    ensures { page_at result page.new ≡ laid (page_at at page.old) (total_text f) }
-{
-    if f.segmentation != 1 {
-        return at;
+#[derive(Clone, Copy)]
+struct Total(SdoCommand);
+
+impl fmt::Display for Total {
+    ghost output = { λ x. Some (total_text x.0) };
+
+    fn fmt<W: fmt::Write>(&self, f: &mut fmt::Formatter<W>) -> fmt::Result {
+        let Total(command) = *self;
+        if command.header.segmentation != Segmentation::Initiate {
+            return Ok(());
+        }
+        let total = command.total.unwrap_or(0);
+        write!(f, ", {total} bytes in all")
     }
-    template::put(page, at, b", # bytes in all", &[f.total as u64])
 }
 
 // The command's header.
-fn put_command(page: &mut [u8], at: usize, f: Frame) -> usize
-    ensures { page_at result page.new ≡ laid (page_at at page.old) (command_text f) }
-{
-    let at = put_kind(page, at, f);
-    let at = template::put(page, at, b", transaction #", &[f.transaction as u64]);
-    let at = put_total(page, at, f);
-    template::put(page, at, b", # bytes of data", &[f.size as u64])
+#[derive(Clone, Copy)]
+struct Command(SdoCommand);
+
+impl fmt::Display for Command {
+    ghost output = { λ x. Some (command_text x.0) };
+
+    fn fmt<W: fmt::Write>(&self, f: &mut fmt::Formatter<W>) -> fmt::Result {
+        let transaction = self.0.header.transaction;
+        let size = self.0.header.size;
+        let kind = Kind(self.0.header);
+        let total = Total(self.0);
+        write!(
+            f,
+            "{kind}, transaction {transaction}{total}, {size} bytes of data"
+        )
+    }
 }
 
 // What a frame has: a header unless it is too short, a command or none.
-fn put_decoded(page: &mut [u8], at: usize, f: Frame) -> usize
-    ensures { page_at result page.new ≡ laid (page_at at page.old) (decoded_text f) }
-{
-    if f.kind == frame::SHORT {
-        return at;
+#[derive(Clone, Copy)]
+struct Parts(Frame);
+
+impl fmt::Display for Parts {
+    ghost output = { λ x. Some (decoded_text x.0) };
+
+    fn fmt<W: fmt::Write>(&self, f: &mut fmt::Formatter<W>) -> fmt::Result {
+        match self.0 {
+            Frame::Short => Ok(()),
+            Frame::Empty(header) | Frame::Unreadable(header) => write!(f, "{}", Header(header)),
+            Frame::Command(header, command) => {
+                write!(f, "{}{}", Header(header), Command(command))
+            }
+        }
     }
-    let at = put_header(page, at, f);
-    if f.kind == frame::COMMAND {
-        return put_command(page, at, f);
-    }
-    at
 }
 
 // A frame decoded, and its first bytes.
-pub fn put_frame(page: &mut [u8], at: usize, f: Frame, bytes: &[u8]) -> usize
-    ensures { page_at result page.new ≡ laid (page_at at page.old) (frame_text f bytes.now) }
-{
-    let at = put_decoded(page, at, f);
-    let at = show::put(page, at, b"\n    bytes:  ");
-    let at = show::put_start(page, at, bytes, 24);
-    show::put(page, at, b"\n")
+#[derive(Clone, Copy)]
+pub struct Decoded<'a> {
+    pub frame: Frame,
+    pub bytes: &'a [u8],
+}
+
+impl fmt::Display for Decoded<'_> {
+    ghost output = { λ x. Some (frame_text x.frame x.bytes.now) };
+
+    fn fmt<W: fmt::Write>(&self, f: &mut fmt::Formatter<W>) -> fmt::Result {
+        let bytes = self.bytes;
+        let start = Start { bytes, shown: 24 };
+        write!(f, "{}\n    bytes:  {start}\n", Parts(self.frame))
+    }
 }

@@ -4,4 +4,4 @@ use Rattle.show.proofs.before.Goals as goal
 
 pub returns : goal.returns
 unfolding until_mark
-returns c = rw c.find.ensures.value at c.part.ensures
+returns c = rw c.find.ensures.value

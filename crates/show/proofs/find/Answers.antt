@@ -1,21 +1,11 @@
--- No mark stands before i.
-use borrow.Author.Rules.{rules}
-use borrow.Author.Tests.{eq-eqb, ne_eqb}
-use Rattle.picks.proofs.First.{first_start, first_more, first_here, first_none}
+-- The place that the search gives, or the length.
+use Rattle.std.proofs.Common.{rules, tests, eqb, ◌∙◌}
+use Rattle.std.proofs.lemmas.Iterator.{YieldsList-from_slice}
+use Rattle.std.proofs.lemmas.Iterator.Search.{position_from_yields_List}
+use Rattle.show.proofs.Texts.{found}
 use Rattle.show.proofs.find.Goals as goal
 
-pub loop-i-init : goal.loop-i-init
-loop-i-init c = (search rules, first_start _ _)
-
-pub returns-then-text-i : goal.returns-then-text-i
-returns-then-text-i c =
-    let l = c.loop-i in
-    record { value = first_here _ _ l.i 0 c.loop-i-test.true (eq-eqb _ _ c.if-text-i.true) l.invariant.1; upper_bound = l.invariant.0 }
-
-pub loop-i-preserved : goal.loop-i-preserved
-loop-i-preserved c =
-    let l = c.loop-i in
-    (search rules, first_more _ _ l.i 0 c.loop-i-test.true (ne_eqb _ _ c.if-text-i.false) l.invariant.1)
-
-pub returns : goal.returns
-returns c = let l = c.loop-i in record { value = first_none _ _ l.i c.loop-i-test.false l.invariant.1; upper_bound = l.invariant.0 }
+pub returns-clause-value : goal.returns-clause-value
+returns-clause-value c =
+    let at = position_from_yields_List (λ x. eqb x c.args.mark) _ _ c.position.result c.position.ensures.ran (YieldsList-from_slice c.args.text.now cc) (λ x b q k. search (rules, tests)) in
+    c.unwrap_or.ensures ∙ found (λ x. eqb x c.args.mark) c.args.text.now c.position.result at

@@ -1,24 +1,22 @@
--- The text from the place on has the line with the number that is left.
-use mathlib.Core.Path.{◌≡◌, refl, sym, ◌∙◌}
-use native.Mathlib.Omega.{arith}
-use lib.ListN.{drop}
+-- Each turn passes a line.
+use Rattle.std.proofs.Common.{◌≡◌, ◌-◌, ◌+◌, arith, ◌∙◌, sym}
 use Rattle.show.specs.Text.{line_of}
 use Rattle.show.proofs.Texts.{line_more}
-use borrow.Author.Rules.{rules}
 use Rattle.show.proofs.line.Goals as goal
 
-pub loop-left-init : goal.loop-left-init
-loop-left-init c = (search rules, search rules, refl)
+pub loop-init : goal.loop-init
+loop-init c = let e : c.args.n - 0 ≡ c.args.n = omega arith in rw e
 
-pub loop-left-preserved : goal.loop-left-preserved
-loop-left-preserved c =
-    let l = c.loop-left in
-    let text = c.args.text.now in
-    (search rules, search rules, l.invariant.2 ∙ line_more l.left (drop l.at text) c.loop-left-test.true ∙ rw c.next_line-at.ensures.text_value)
+pub loop-preserved : goal.loop-preserved
+loop-preserved c =
+    let l = c.loop in
+    let n = c.args.n in
+    let e : n - (l.counter + 1) ≡ n - l.counter - 1 = omega arith in
+    rw (c.behind-rest.ensures, e) (l.invariant ∙ line_more (n - l.counter) l.rest.now (omega arith))
 
 pub returns : goal.returns
 unfolding line_of
 returns c =
-    let l = c.loop-left in
-    let e : l.left ≡ 0 = omega arith in
-    rw c.rest.ensures at c.before-2.ensures ∙ sym (rw e at l.invariant.2)
+    let l = c.loop in
+    let e : c.args.n - l.counter ≡ 0 = omega arith in
+    c.before-2.ensures ∙ sym (rw e at l.invariant)

@@ -1,25 +1,24 @@
 -- By the segmentation and the size.
-use borrow.Author.Tests.{eq-eqb, ne_eqb}
-use native.Mathlib.Omega.{arith}
-use mathlib.Core.Path.{refl}
-use Rattle.picks.proofs.Picks.{pick_t, pick_f}
+use Rattle.std.proofs.Common.{◌≡◌, ◌∙◌, ℕ, refl, true, false, arith, rules}
+use Rattle.std.specs.Prelude.{Option, None, Some, unwrap_or}
+use lib.Dec.{eqb}
+use Rattle.picks.specs.Pick.{pick}
+use Rattle.protocol.specs.Command.{segmentation_number, total_number}
 use Rattle.steps.specs.Steps.{amount_of}
 use Rattle.steps.proofs.amount.Goals as goal
 
-pub returns-then-f-eq1 : goal.returns-then-f-eq1
-unfolding amount_of
-returns-then-f-eq1 c =
-    let a = c in
-    pick_t _ _ _ _ (eq-eqb _ _ a.if-f-eq1.true) refl
+none_is_0 : (o : Option ℕ) → unwrap_or o 0 ≡ total_number o
+none_is_0 None = refl
+none_is_0 (Some n) = refl
 
-pub returns-then-f-lt4 : goal.returns-then-f-lt4
-unfolding amount_of
-returns-then-f-lt4 c =
-    let a = c in
-    pick_f _ _ _ _ (ne_eqb _ _ a.if-f-eq1.false) (omega arith)
+pub returns-then-eq : goal.returns-then-eq
+unfolding amount_of pick
+returns-then-eq c =
+    let e : eqb (segmentation_number c.args.c.header.segmentation) 1 ≡ true = search rules in
+    rw e (c.from.ensures ∙ c.unwrap_or.ensures ∙ none_is_0 c.args.c.total)
 
 pub returns : goal.returns
-unfolding amount_of
+unfolding amount_of pick
 returns c =
-    let a = c in
-    pick_f _ _ _ _ (ne_eqb _ _ a.if-f-eq1.false) refl
+    let e : eqb (segmentation_number c.args.c.header.segmentation) 1 ≡ false = search rules in
+    rw e (omega (arith, c.saturating_sub.ensures))

@@ -1,0 +1,28 @@
+-- By the segmentation.
+use Rattle.std.proofs.Common.{◌≡◌, ◌∙◌, refl, ℕ, true, false, arith, rules, sym}
+use Rattle.show.proofs.Written.{as_text, nothing_yet}
+use Rattle.picks.specs.Pick.{pick}
+use lib.Dec.{eqb}
+use Rattle.std.specs.Prelude.{Option, None, Some, unwrap_or}
+use Rattle.protocol.specs.Command.{segmentation_number, total_number}
+use Rattle.show.specs.Text.{letters}
+use Rattle.show.proofs.Numbers.{decimal_same}
+use Rattle.wording.specs.Words.{total_text}
+use Rattle.wording.proofs.TotalDisplay.fmt.Goals as goal
+
+none_is_0 : (o : Option ℕ) → unwrap_or o 0 ≡ total_number o
+none_is_0 None = refl
+none_is_0 (Some n) = refl
+
+pub returns-then-ne-clause-writes : goal.returns-then-ne-clause-writes
+unfolding letters total_text pick
+returns-then-ne-clause-writes g c p ok =
+    let e : eqb (segmentation_number c.args.self.now.0.header.segmentation) 1 ≡ false = search rules in
+    nothing_yet (rw e) p
+
+pub returns-clause-writes : goal.returns-clause-writes
+unfolding letters total_text pick
+returns-clause-writes g c p ok =
+    let e : eqb (segmentation_number c.args.self.now.0.header.segmentation) 1 ≡ true = search rules in
+    let n : c.unwrap_or-total.result ≡ total_number c.args.self.now.0.total = c.unwrap_or-total.ensures ∙ none_is_0 c.args.self.now.0.total in
+    as_text (rw (e, ← n, sym (decimal_same c.unwrap_or-total.result (omega arith))) refl) (c.write.ensures.writes p ok)
