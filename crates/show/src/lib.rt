@@ -1,13 +1,11 @@
-// Bytes and numbers in hex for those who read them, a page that texts are written on, and the parts of a text.
+// Bytes in hex for those who read them, a text laid on a lent page, and the parts of a text.
 #![tactic(auto)]
 
-ghost use Rattle.std.specs.Prelude.{◌≡◌, ◌≤◌, length, eqb, Some, OnOk, IfSome};
+ghost use Rattle.std.specs.Prelude.{◌≡◌, ◌≤◌, length, eqb, Some};
 ghost use Rattle.picks.specs.Pick.{first};
-ghost use Rattle.show.specs.Reading.{page_of};
 ghost use Rattle.show.specs.Text.{page_at, laid, bytes_text, start_text, until_mark, behind_mark, line_of};
 
 use std::fmt;
-use std::fmt::Write;
 
 // Bytes in hex, with a blank before each.
 #[derive(Clone, Copy)]
@@ -44,37 +42,13 @@ impl fmt::Display for Start<'_> {
     }
 }
 
-// A lent page that a text is written on, and the place of the next one. What does not fit is dropped.
-pub struct Page<'a> {
-    bytes: &'a mut [u8],
-    at: usize,
-}
-
-impl<'a> Page<'a> {
-    // A page with nothing on it yet: the bytes keep what they have where no text comes.
-    pub fn new(bytes: &'a mut [u8]) -> Page<'a>
-        ensures { page_of result ≡ page_at 0 bytes.entry.now }
-    {
-        Page { bytes, at: 0 }
-    }
-
-    // Writes the text of a value.
-    pub fn put<D: fmt::Display + Drop>(&mut self, value: D) -> fmt::Result
-        ensures { OnOk result (IfSome (D.output value) (λ text. page_of self.new ≡ laid (page_of self.old) text)) }
-    {
-        self.write(value)
-    }
-}
-
-impl fmt::Write for Page<'_> {
-    ghost write_str_gives = { λ old text new. page_of new ≡ laid (page_of old) text };
-
-    fn write_str(&mut self, s: &str) -> fmt::Result {
-        let room = self.bytes.len().saturating_sub(self.at);
-        octets::copy_at(self.bytes, self.at, s.as_bytes());
-        self.at += s.len().min(room);
-        Ok(())
-    }
+// A text goes to a page from a place on, as far as the page goes; answers the place behind it.
+pub fn put(page: &mut [u8], at: usize, text: &[u8]) -> usize
+    ensures { page_at result page.new ≡ laid (page_at at page.old) text.now }
+{
+    let n = text.len().min(page.len().saturating_sub(at));
+    octets::copy_at(page, at, text);
+    at + n
 }
 
 // Where a mark first stands in a text: its length where it does not.

@@ -3,8 +3,8 @@ use Rattle.std.proofs.Common.{rules}
 use native.Mathlib.Omega.{arith}
 use Rattle.show.specs.Text.{laid}
 use Rattle.show.proofs.Laid.{page_path}
-use Rattle.show.proofs.PageWrite.write_str.Goals as goal
+use Rattle.show.proofs.put.Goals as goal
 
 pub returns : goal.returns
 unfolding laid
-returns c = record { ok = λ _. page_path (omega (arith, c.min.ensures, c.saturating_sub-room.ensures)) (search rules) }
+returns c = page_path (omega (arith, c.min-n.ensures, c.saturating_sub.ensures)) c.copy_at.ensures
