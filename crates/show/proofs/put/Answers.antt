@@ -1,5 +1,4 @@
 -- As much as fits stands behind the place, which moves behind it.
-use Rattle.std.proofs.Common.{rules}
 use native.Mathlib.Omega.{arith}
 use Rattle.show.specs.Text.{laid}
 use Rattle.show.proofs.Laid.{page_path}
