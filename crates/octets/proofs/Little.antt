@@ -5,7 +5,7 @@ use native.Mathlib.Nat.{pow-suc, pow-succ', mul_assoc, zero-add, suc-add, mul-po
 use mathlib.Core.Path.{◌≡◌, refl, sym, ap, ◌∙◌}
 use mathlib.Core.List.{List, [], ◌∷◌, ◌++◌}
 use lib.ListN.{length, take, drop, get_or, replicate}
-use lib.Seq.{take-nil}
+use lib.Seq.{take-nil, take_all}
 use lib.Dec.{lit<}
 use lib.Arith.{mod-mul}
 use Rattle.std.specs.Int.{byte_worth, bytes_low_first, sum_through}
@@ -83,6 +83,9 @@ sum_bytes zero xs = le_byte 0 xs
 sum_bytes (suc n) xs =
     let e : suc (suc n) ≡ suc n + 1 = omega arith in
     rw (e, le_split (suc n) 1 xs, sum_bytes n xs, le_byte (suc n) xs) (omega arith)
+
+pub number_of : (n : ℕ) (xs : List ℕ) → length xs ≡ suc n → sum_through (λ i. byte_worth i (get_or xs i 0)) n ≡ le xs
+number_of n xs e = sum_bytes n xs ∙ ap le (take_all (suc n) xs (omega arith))
 
 -- and its bytes of a number, from byte i on, are those of the number without the bytes before
 bytes_from : (i n v : ℕ) → bytes_low_first i n v ≡ le_bytes n (v / 256 ^ i)

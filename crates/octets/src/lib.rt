@@ -31,6 +31,7 @@ impl LittleEndian<2> for u16 {
         u16::from_le_bytes(bytes)
     }
 
+    #[tactic(auto, unfolding(crate::specs::Octets::le_bytes))]
     fn to_bytes(self) -> [u8; 2]
         ensures { result ≡ le_bytes 2 self }
     {
@@ -49,6 +50,7 @@ impl LittleEndian<4> for u32 {
         u32::from_le_bytes(bytes)
     }
 
+    #[tactic(auto, unfolding(crate::specs::Octets::le_bytes))]
     fn to_bytes(self) -> [u8; 4]
         ensures { result ≡ le_bytes 4 self }
     {
@@ -67,6 +69,7 @@ impl LittleEndian<8> for u64 {
         u64::from_le_bytes(bytes)
     }
 
+    #[tactic(auto, unfolding(crate::specs::Octets::le_bytes))]
     fn to_bytes(self) -> [u8; 8]
         ensures { result ≡ le_bytes 8 self }
     {
@@ -74,7 +77,7 @@ impl LittleEndian<8> for u64 {
     }
 }
 
-// The byte at a place.
+// The byte at a place. (Here and below the slice and the place are the receiver and its argument, as `get` has them.)
 pub fn byte_at(s: &[u8], at: usize) -> u8
     ensures { result ≡ get_or s.now at 0 }
 {
@@ -97,6 +100,7 @@ pub fn rest(s: &[u8], start: usize) -> &[u8]
 }
 
 // The N bytes at a place.
+#[tactic(auto, using(crate::proofs::Little::laid))]
 pub fn bytes_at<const N: usize>(s: &[u8], at: usize) -> [u8; N]
     ensures { result ≡ splice 0 (drop at s.now) (replicate N 0) }
 {
@@ -112,6 +116,7 @@ pub fn bytes_at<const N: usize>(s: &[u8], at: usize) -> [u8; N]
 }
 
 // The number at a place.
+#[tactic(auto, using(crate::proofs::Little::le_laid))]
 pub fn number_at<T: LittleEndian<N>, const N: usize>(s: &[u8], at: usize) -> T
     ensures { T.value result ≡ le (take N (drop at s.now)) }
 {
@@ -119,6 +124,7 @@ pub fn number_at<T: LittleEndian<N>, const N: usize>(s: &[u8], at: usize) -> T
 }
 
 // src goes to dst from at on, as far as dst goes; every byte outside stays.
+#[tactic(auto, using(crate::proofs::Splice::store_part, crate::proofs::Splice::splice_cut, crate::proofs::Splice::splice_min))]
 pub fn copy_at(dst: &mut [u8], at: usize, src: &[u8])
     ensures { dst.new ≡ splice at src.now dst.old }
 {

@@ -1,4 +1,4 @@
--- Laws of a loop that folds a list, or checks it with a state: what the loop has at its head, after a turn, and at its end.
+-- Laws of a loop that checks a list with a state: what the loop has at its head, after a turn, and at its end.
 use Prim.Native.Nat.{ℕ, ◌+◌, ◌<◌, ◌≤◌}
 use native.Mathlib.Numerals.{add-one}
 use mathlib.Core.Path.{◌≡◌, sym, ◌∙◌}
@@ -6,16 +6,7 @@ use mathlib.Core.Bool.{Bool, true, false}
 use mathlib.Core.List.{List}
 use lib.ListN.{length, get_or, drop, drop_of_length-le}
 use lib.Seq.{drop-cons}
-use Rattle.picks.specs.Pick.{fold, checks}
-
-module _ {S A : Type 0} (f : S → A → S) (xs : List A) (end s : S) (i : ℕ) (inv : end ≡ fold f s (drop i xs)) where
-  pub fold_more : (d : A) → i < length xs → end ≡ fold f (f s (get_or xs i d)) (drop (i + 1) xs)
-  unfolding fold
-  fold_more d h = inv ∙ (rw (drop-cons xs i d h, add-one i))
-
-  pub fold_end : length xs ≤ i → s ≡ end
-  unfolding fold
-  fold_end h = sym (inv ∙ (rw (drop_of_length-le xs h)))
+use Rattle.picks.specs.Pick.{checks}
 
 module _ {S A : Type 0} (ok : S → A → Bool) (next : S → A → S) (xs : List A) (all : Bool) (s : S) (i : ℕ) (inv : all ≡ checks ok next s (drop i xs)) where
   pub checks_more : (d : A) → i < length xs → ok s (get_or xs i d) ≡ true → all ≡ checks ok next (next s (get_or xs i d)) (drop (i + 1) xs)

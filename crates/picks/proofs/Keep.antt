@@ -8,7 +8,14 @@ use mathlib.Core.List.{List, [], ◌∷◌, ◌++◌, map, tail}
 use lib.ListN.{length, get_or, set}
 use lib.Dec.{ltb, leb-suc-suc}
 use borrow.Author.Tests.{lt-ltb, not-true}
+use Rattle.std.specs.List.{list_all}
 use Rattle.picks.specs.Pick.{pick, first, every, count, keep}
+
+-- std's test of a whole list is the definitions'
+pub all_every : {A : Type 0} (f : A → Bool) (xs : List A) → list_all f xs ≡ every f xs
+unfolding every
+all_every f [] = refl
+all_every f (x ∷ xs) = rw (all_every f xs)
 
 -- what holds whichever way a test goes
 pub by_test : {P : Type 0} (b : Bool) → (b ≡ true → P) → (b ≡ false → P) → P
@@ -111,9 +118,6 @@ module _ {A : Type 0} (f : A → Bool) where
   keep_none (x ∷ xs) e =
       let p = of_both (not (f x)) (every (λ y. not (f y)) xs) e in
       rw (keep_no x xs (not-true (f x) p.0)) (keep_none xs p.1)
-
-  pub keep_again : (xs : List A) → keep f (keep f xs) ≡ keep f xs
-  keep_again xs = keep_all (keep f xs) (every_kept xs)
 
   pub count_none : (xs : List A) → every (λ x. not (f x)) xs ≡ true → count f xs ≡ 0
   count_none xs e = sym (length_keep xs) ∙ ap length (keep_none xs e)

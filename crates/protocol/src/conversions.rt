@@ -14,6 +14,7 @@ use crate::{
 };
 
 // The receive mark of a number from 0 to 3, and its number.
+// (A cast goes from a variant to its number and not back, so this and the two alike below say each variant; one function for the three would be handed the four variants, and these are all that they are.)
 impl From<u8> for ReceiveConnState {
     ghost from_gives = { λ n m. m ≡ receive_mark_of n };
 
@@ -163,6 +164,7 @@ impl From<Misfit> for Refusal {
 }
 
 // What is missing is told by its abort code.
+// (A LookupError has no number of its own to cast: what it is on the wire is a variant of AbortCode.)
 impl From<LookupError> for AbortCode {
     ghost from_gives = { λ e c. readable (Err e) ≡ Err c };
 

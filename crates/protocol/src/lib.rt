@@ -130,6 +130,7 @@ pub enum SdoClientInfo {
 }
 
 // A transfer, held in the state that runs it. Its bytes are in the client's share of the area.
+// (`stored` is a flag: what it tells of is the bytes before offset, so that no value belongs to it.)
 #[derive(Clone, Copy)]
 pub struct SdoTransferState {
     pub transaction: u8, // transaction_id
@@ -152,6 +153,7 @@ pub enum SdoServerState {
 }
 
 // A record of the connection table: the Rust's SdoSequenceHandler with its place in the map.
+// (`used` is a flag: an unused record has a share's number too, and by it the shares stay apart.)
 #[derive(Clone, Copy)]
 pub struct Connection {
     pub used: bool,
@@ -182,6 +184,7 @@ pub enum LookupError {
 }
 
 // Where an answer's payload stands: nowhere, a part of the image, a part of the client's share of the area (place and length), or numbers that the answer's writer lays out.
+// (Nothing is an empty payload and not a missing one, so it is no None; a part is a place and a length, since an action is a value that lends nothing; a code may be any number.)
 #[derive(Clone, Copy)]
 pub enum Body {
     Nothing,

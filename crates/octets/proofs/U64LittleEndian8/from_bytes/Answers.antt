@@ -1,15 +1,8 @@
 -- The standard library's number is that of the definition.
-use native.Mathlib.Omega.{arith}
-use mathlib.Core.Path.{◌≡◌, ◌∙◌, ap}
-use lib.ListN.{length}
-use lib.Seq.{take_all}
+use mathlib.Core.Path.{◌∙◌}
 use borrow.Author.Rules.{rules}
-use Rattle.octets.specs.Octets.{le}
-use Rattle.octets.proofs.Little.{sum_bytes}
+use Rattle.octets.proofs.Little.{number_of}
 use Rattle.octets.proofs.U64LittleEndian8.from_bytes.Goals as goal
 
 pub returns : goal.returns
-returns c =
-    let a = c.args in
-    let e : length a.bytes ≡ 8 = search rules in
-    c.from_le_bytes.ensures ∙ sum_bytes 7 a.bytes ∙ ap le (take_all 8 a.bytes (omega arith))
+returns c = c.from_le_bytes.ensures ∙ number_of 7 c.args.bytes (search rules)
