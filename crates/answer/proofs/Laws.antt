@@ -15,7 +15,7 @@ use Rattle.protocol.specs.SequenceHeader.{encode_header}
 use Rattle.protocol.specs.Command.{flag_places, encode_command}
 use Rattle.protocol.specs.ConnectionRecord.{Reply}
 use Rattle.protocol.specs.Calls.{frame}
-use Rattle.protocol.proofs.Coding.{put_fits}
+use Rattle.protocol.proofs.Coding.{left_fits}
 use Rattle.protocol.specs.TransferRecord.{is_part, body_part, body_bytes}
 
 -- a store in the part from a to the end, said of the whole
@@ -32,8 +32,7 @@ part_whole share image b e = rw e
 -- four bytes at the start, and then a store in the rest
 pub laid_behind : (h e answer s z : List ℕ) → length h ≡ 4 → 4 ≤ length answer → s ≡ put h answer → z ≡ splice 0 e (take (length s - 4) (drop 4 s)) → take 4 s ++ (z ++ drop (length s - 4) (drop 4 s)) ≡ splice 0 (h ++ e) answer
 laid_behind h e answer s z four room es ez =
-    let fits = put_fits h answer (length h) (splice 0 h answer) (omega arith) refl refl in
-    rw ez (splice_rest 4 0 e s) ∙ ap (splice 4 e) (es ∙ sym fits.1) ∙ ap (λ n. splice n e (splice 0 h answer)) (let q : 4 ≡ 0 + length h = omega arith in q) ∙ splice_splice 0 h e answer
+    rw ez (splice_rest 4 0 e s) ∙ ap (splice 4 e) (es ∙ left_fits h answer (omega arith)) ∙ ap (λ n. splice n e (splice 0 h answer)) (let q : 4 ≡ 0 + length h = omega arith in q) ∙ splice_splice 0 h e answer
 
 pub frame_length : (r : Reply) → length (frame r) ≡ 4 + length (encode_command flag_places r.command)
 unfolding frame encode_header

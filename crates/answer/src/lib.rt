@@ -1,66 +1,46 @@
 // An answer's bytes in a lent buffer.
 #![tactic(auto)]
 
-ghost use Rattle.std.specs.Prelude.{◌≡◌, ◌++◌, ◌≤◌, length};
-ghost use Rattle.octets.specs.Octets.{le_bytes, splice};
+ghost use Rattle.std.specs.Prelude.{◌≡◌, ℕ, List, false};
 ghost use Rattle.protocol.specs.Coding.{told_written};
-ghost use Rattle.protocol.specs.Command.{flag_places, with_payload, encode_command};
-ghost use Rattle.protocol.specs.TransferRecord.{body_bytes};
+ghost use Rattle.protocol.specs.TransferRecord.{is_part, body_bytes};
 ghost use Rattle.protocol.specs.ConnectionRecord.{told_reply};
 ghost use Rattle.protocol.specs.Calls.{answer_written, answer_left};
 
 use octets::LittleEndian;
 use protocol::{ANSWER_MIN, Body, BufferTooShort, SdoCommand, SdoResponseData};
 
-// Writes a command with its payload of at most so many bytes at the buffer's start and tells its length.
-fn put_command(m: SdoCommand, payload: &[u8], most: u16, buffer: &mut [u8]) -> usize
-    requires { length payload.now ≤ most }
-    ensures size { (result ≡ length (encode_command flag_places (with_payload m payload.now))) × (result ≤ 65547) }
-    ensures bytes { buffer.new ≡ splice 0 (encode_command flag_places (with_payload m payload.now)) buffer.old }
-{
-    command::store(m, payload, buffer);
-    fields::header_length(m.header.segmentation) + payload.len()
-}
-
-// A command whose payload is a u32.
-fn put_code(m: SdoCommand, code: u32, buffer: &mut [u8]) -> usize
-    ensures size { (result ≡ length (encode_command flag_places (with_payload m (le_bytes 4 code)))) × (result ≤ 65547) }
-    ensures bytes { buffer.new ≡ splice 0 (encode_command flag_places (with_payload m (le_bytes 4 code))) buffer.old }
-{
-    put_command(m, &code.to_bytes(), 4, buffer)
-}
-
-// A command whose payload is two u16.
-fn put_sizes(m: SdoCommand, a: u16, b: u16, buffer: &mut [u8]) -> usize
-    ensures size { (result ≡ length (encode_command flag_places (with_payload m (le_bytes 2 a ++ le_bytes 2 b)))) × (result ≤ 65547) }
-    ensures bytes { buffer.new ≡ splice 0 (encode_command flag_places (with_payload m (le_bytes 2 a ++ le_bytes 2 b))) buffer.old }
-{
-    let [a_low, a_high]: [u8; 2] = a.to_bytes();
-    let [b_low, b_high]: [u8; 2] = b.to_bytes();
-    put_command(m, &[a_low, a_high, b_low, b_high], 4, buffer)
-}
-
-// A command whose payload stands in a body.
-fn put_body<'a>(
-    m: SdoCommand,
-    body: Body,
-    share: &'a [u8],
-    image: &'a [u8],
-    buffer: &mut [u8],
-) -> usize
-    ensures size { (result ≡ length (encode_command flag_places (with_payload m (body_bytes share.now image.now body)))) × (result ≤ 65547) }
-    ensures bytes { buffer.new ≡ splice 0 (encode_command flag_places (with_payload m (body_bytes share.now image.now body))) buffer.old }
+// The bytes of a body's numbers: an abort code, or two sizes. A part of the image or of the share has none.
+fn number_bytes(body: Body) -> [u8; 4]
+    ensures { (share image : List ℕ) → is_part body ≡ false → result ≡ body_bytes share image body }
 {
     match body {
-        Body::Nothing => put_command(m, handlers::payload(share, image, body), 0, buffer),
-        Body::Image(at, n) => put_command(m, handlers::payload(share, image, body), n, buffer),
-        Body::Share(at, n) => put_command(m, handlers::payload(share, image, body), n, buffer),
-        Body::Code(code) => put_code(m, code, buffer),
-        Body::Sizes(a, b) => put_sizes(m, a, b, buffer),
+        Body::Code(code) => code.to_bytes(),
+        Body::Sizes(a, b) => {
+            let [a_low, a_high]: [u8; 2] = a.to_bytes();
+            let [b_low, b_high]: [u8; 2] = b.to_bytes();
+            [a_low, a_high, b_low, b_high]
+        }
+        Body::Nothing | Body::Image(_, _) | Body::Share(_, _) => [0; 4],
+    }
+}
+
+// A body's payload: a part of the image or of the share, or its numbers' bytes.
+#[tactic(auto, unfolding(picks::specs::Pick::pick))]
+fn payload<'a>(share: &'a [u8], image: &'a [u8], body: Body, numbers: &'a [u8; 4]) -> &'a [u8]
+    requires { is_part body ≡ false → numbers.now ≡ body_bytes share.now image.now body }
+    ensures { result.now ≡ body_bytes share.now image.now body }
+{
+    match body {
+        Body::Code(_) | Body::Sizes(_, _) => numbers,
+        Body::Nothing | Body::Image(_, _) | Body::Share(_, _) => {
+            handlers::payload(share, image, body)
+        }
     }
 }
 
 // Writes an answer into a lent buffer and tells its length. A buffer under 1,468 bytes is refused and stays whole.
+#[tactic(auto, unfolding(protocol::specs::Constants::ANSWER_MIN, picks::specs::Pick::pick))]
 pub fn write_answer<'a>(
     r: SdoResponseData,
     share: &'a [u8],
@@ -74,6 +54,9 @@ pub fn write_answer<'a>(
         return Err(BufferTooShort);
     }
     let _ = sequence::serialize(r.header, answer);
-    let n = put_body(r.command, r.body, share, image, &mut answer[4..]);
-    Ok(4 + n)
+    let m = r.command;
+    let numbers = number_bytes(r.body);
+    let payload = payload(share, image, r.body, &numbers);
+    command::store(m, payload, &mut answer[4..]);
+    Ok(4 + fields::header_length(m.header.segmentation) + payload.len())
 }

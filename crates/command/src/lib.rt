@@ -6,6 +6,7 @@ ghost use Rattle.octets.specs.Octets.{splice};
 ghost use Rattle.protocol.specs.Coding.{put, written, told_written};
 ghost use Rattle.protocol.specs.Command.{flag_places, flags_byte, total_bytes, total_of, fixed_header, header_of, payload_of, with_payload, encode_command, decode_with, decode_command, told_command};
 
+use octets::LittleEndian;
 use protocol::{
     BufferTooShort, CommandError, CommandId, CommandLayerHeader, SdoCommand, Segmentation,
 };
@@ -37,6 +38,7 @@ fn header_of(id: CommandId, buffer: &[u8]) -> CommandLayerHeader
 }
 
 // What the bytes are, their fixed header given: the total and the payload must be there whole.
+#[tactic(auto, using(protocol::proofs::Command::decode_header_cut, protocol::proofs::Command::decode_payload_cut, protocol::proofs::Command::decode_whole))]
 fn with_header(h: CommandLayerHeader, buffer: &[u8]) -> Result<SdoCommand, CommandError>
     ensures { told_command buffer.now result ≡ decode_with h buffer.now }
 {
@@ -55,6 +57,7 @@ fn with_header(h: CommandLayerHeader, buffer: &[u8]) -> Result<SdoCommand, Comma
 }
 
 // The command at the start of these bytes; those after its payload are ignored.
+#[tactic(auto, using(protocol::proofs::Command::decode_short, protocol::proofs::Command::decode_unknown, protocol::proofs::Command::decode_known))]
 pub fn deserialize(buffer: &[u8]) -> Result<SdoCommand, CommandError>
     ensures { told_command buffer.now result ≡ decode_command flag_places buffer.now }
 {
@@ -84,21 +87,13 @@ fn flags(h: CommandLayerHeader) -> u8
 }
 
 // Writes the fixed header at the start of the buffer.
+#[tactic(auto, unfolding(protocol::specs::Command::fixed_header, octets::specs::Octets::le_bytes))]
 fn put_header(h: CommandLayerHeader, buffer: &mut [u8])
     ensures { buffer.new ≡ splice 0 (fixed_header flag_places h) buffer.old }
 {
     let id = h.id;
-    let size = h.size;
-    let bytes = [
-        0,
-        h.transaction,
-        flags(h),
-        u8::from(id),
-        (size % 256) as u8,
-        (size / 256 % 256) as u8,
-        0,
-        0,
-    ];
+    let [low, high]: [u8; 2] = h.size.to_bytes();
+    let bytes = [0, h.transaction, flags(h), u8::from(id), low, high, 0, 0];
     octets::copy_at(buffer, 0, &bytes);
 }
 
@@ -113,6 +108,7 @@ fn put_total(s: Segmentation, d: Option<u32>, buffer: &mut [u8])
 }
 
 // Writes the command with its payload at the start of the buffer, as far as the buffer goes; its other bytes stay.
+#[tactic(auto, using(protocol::proofs::Command::stored_command))]
 pub fn store(c: SdoCommand, payload: &[u8], buffer: &mut [u8])
     ensures { buffer.new ≡ splice 0 (encode_command flag_places (with_payload c payload.now)) buffer.old }
 {
@@ -125,6 +121,7 @@ pub fn store(c: SdoCommand, payload: &[u8], buffer: &mut [u8])
 }
 
 // Writes the command with its payload at the start of the buffer, whose other bytes stay. A buffer that is too short stays whole.
+#[tactic(auto, using(protocol::proofs::Coding::written_short, protocol::proofs::Coding::left_short, protocol::proofs::Coding::written_fits, protocol::proofs::Coding::left_fits, protocol::proofs::Command::encoded_length))]
 pub fn serialize(c: SdoCommand, payload: &[u8], buffer: &mut [u8]) -> Result<usize, BufferTooShort>
     ensures told { told_written result ≡ written (encode_command flag_places (with_payload c payload.now)) buffer.old }
     ensures left { buffer.new ≡ put (encode_command flag_places (with_payload c payload.now)) buffer.old }

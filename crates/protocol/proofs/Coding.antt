@@ -1,13 +1,12 @@
 -- Laws of answers, and of coding into a lent buffer.
 use Prim.Native.Nat.{ℕ, ◌≤◌, ◌<◌}
 use native.Mathlib.Omega.{arith}
-use mathlib.Core.Path.{◌≡◌, refl, ap}
+use mathlib.Core.Path.{◌≡◌, refl, sym, ap, ◌∙◌}
 use mathlib.Core.Bool.{Bool, true, false}
 use mathlib.Core.List.{List}
 use lib.ListN.{length}
 use borrow.Author.Tests.{lt-ltb, le-ltb}
 use Rattle.picks.specs.Pick.{pick}
-use Rattle.picks.proofs.Picks.{pick_t, pick_f}
 use Rattle.octets.specs.Octets.{splice}
 use Rattle.protocol.specs.Coding.{Answer, refused, value, written, put}
 
@@ -26,8 +25,25 @@ past_test true n x v e = absurd (refused_none e)
 past_test false n x v e = (refl, e)
 
 -- coding into a buffer that is too short, and into one that is not
+pub written_short : (bytes buffer : List ℕ) → length buffer < length bytes → written bytes buffer ≡ refused 1
+unfolding pick
+written_short bytes buffer h = rw (lt-ltb _ _ h)
+
+pub left_short : (bytes buffer : List ℕ) → length buffer < length bytes → put bytes buffer ≡ buffer
+unfolding pick
+left_short bytes buffer h = rw (lt-ltb _ _ h)
+
+pub written_fits : (bytes buffer : List ℕ) → length bytes ≤ length buffer → written bytes buffer ≡ value (length bytes)
+unfolding pick
+written_fits bytes buffer h = rw (le-ltb _ _ h)
+
+pub left_fits : (bytes buffer : List ℕ) → length bytes ≤ length buffer → put bytes buffer ≡ splice 0 bytes buffer
+unfolding pick
+left_fits bytes buffer h = rw (le-ltb _ _ h)
+
+-- both together, of what is told and what is left
 pub put_short : (bytes buffer : List ℕ) → length buffer < length bytes → (refused 1 ≡ written bytes buffer) × (buffer ≡ put bytes buffer)
-put_short bytes buffer h = let t = lt-ltb _ _ h in (pick_t _ _ _ _ t refl, pick_t _ _ _ _ t refl)
+put_short bytes buffer h = (sym (written_short bytes buffer h), sym (left_short bytes buffer h))
 
 pub put_fits : (bytes buffer : List ℕ) (n : ℕ) (d : List ℕ) → length bytes ≤ length buffer → n ≡ length bytes → d ≡ splice 0 bytes buffer → (value n ≡ written bytes buffer) × (d ≡ put bytes buffer)
-put_fits bytes buffer n d h e f = let t = le-ltb _ _ h in (pick_f _ _ _ _ t (ap value e), pick_f _ _ _ _ t f)
+put_fits bytes buffer n d h e f = (ap value e ∙ sym (written_fits bytes buffer h), f ∙ sym (left_fits bytes buffer h))

@@ -24,6 +24,7 @@ fn octet(number: u8, mark: u8) -> u8
 }
 
 // Writes the header at the start of the buffer, whose other bytes stay. A buffer under four bytes stays whole.
+#[tactic(auto, unfolding(protocol::specs::SequenceHeader::encode_header, picks::specs::Pick::pick))]
 pub fn serialize(h: SequenceLayerHeader, buffer: &mut [u8]) -> Result<usize, BufferTooShort>
     ensures told { told_written result ≡ written (encode_header h) buffer.old }
     ensures left { buffer.new ≡ put (encode_header h) buffer.old }
