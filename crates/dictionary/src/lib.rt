@@ -4,7 +4,7 @@
 ghost use Rattle.std.specs.Prelude.{◌≡◌, ℕ, ◌+◌, ◌*◌, ◌≤◌, ◌<◌, min, Bool, false, ◌&&◌, length, Err};
 ghost use Rattle.std.specs.List.{position_or_len};
 ghost use Rattle.dictionary.specs.Skipping.{is_near, is_near_four, lookup_from};
-ghost use Rattle.protocol.specs.DictionaryImage.{lookup, parameter_of, timeout_of, retries_of};
+ghost use Rattle.protocol.specs.DictionaryImage.{entry_count, lookup, parameter_of, timeout_of, retries_of};
 
 use protocol::{Entry, LookupError};
 
@@ -55,85 +55,99 @@ fn count_far(fours: &[[u8; 48]], low: u16, high: u16) -> usize
     first.unwrap_or(fours.len())
 }
 
-// Entries from a position on without an index of a range are skipped, four at a time, but never the last of n.
-fn skip(image: &[u8], from: usize, n: usize, low: u16, high: u16) -> usize
-    requires { (from ≤ 65535) × (n ≤ 65535) }
-    ensures { (from ≤ result) × (from < n → result < n) × ((index sub : ℕ) (seen : Bool) → low ≤ index → index ≤ high → lookup_from image.now n from index sub seen ≡ lookup_from image.now n result index sub seen) }
-{
-    let (fours, _) = octets::rest(image, 2 + 12 * from).as_chunks::<48>();
-    let most = fours.len().min(n.saturating_sub(from + 1) / 4);
-    from + 4 * count_far(&fours[..most], low, high)
+// The entries of an image, as many as it says; those behind its end are of zeros.
+#[derive(Clone, Copy)]
+struct Entries<'a> {
+    image: &'a [u8],
+    n: u16,
 }
 
-// What the entries from a position on say of an index and sub-index. Behind the end all entries are alike, so that one is enough.
-fn lookup_from(
-    image: &[u8],
-    from: usize,
-    n: usize,
-    index: u16,
-    sub: u8,
-) -> Result<Entry, LookupError>
-    requires { n ≤ 65535 }
-    ensures { result ≡ lookup_from image.now n from index sub false }
-{
-    let mut missing = LookupError::NoObject;
-    let mut i = from;
-    // No `for`: a turn begins with a skip of any length.
-    while i < n {
-        i = skip(image, i, n, index, index);
-        let at = 2 + 12 * i;
-        let e = entries::entry_at(image, at);
-        if e.index == index {
-            if e.sub == sub {
-                return Ok(e);
-            }
-            missing = LookupError::NoSubIndex;
+impl<'a> Entries<'a> {
+    fn of(image: &'a [u8]) -> Entries<'a>
+        ensures image { result.image.now ≡ image.now }
+        ensures count { result.n ≡ entry_count image.now }
+    {
+        Entries {
+            image,
+            n: octets::number_at(image, 0),
         }
-        if image.len() <= at {
-            return Err(missing);
-        }
-        i += 1;
     }
-    Err(missing)
+
+    // Entries from a position on without an index of a range are skipped, four at a time, but never the last.
+    fn skip(self, from: usize, low: u16, high: u16) -> usize
+        requires { from ≤ 65535 }
+        ensures { (from ≤ result) × (from < self.entry.n → result < self.entry.n) × ((index sub : ℕ) (seen : Bool) → low ≤ index → index ≤ high → lookup_from self.entry.image.now self.entry.n from index sub seen ≡ lookup_from self.entry.image.now self.entry.n result index sub seen) }
+    {
+        let (fours, _) = octets::rest(self.image, 2 + 12 * from).as_chunks::<48>();
+        let left = (self.n as usize).saturating_sub(from + 1);
+        let most = fours.len().min(left / 4);
+        from + 4 * count_far(&fours[..most], low, high)
+    }
+
+    // What the entries from a position on say of an index and sub-index. Behind the end all entries are alike, so that one is enough.
+    fn lookup_from(self, from: usize, index: u16, sub: u8) -> Result<Entry, LookupError>
+        ensures { result ≡ lookup_from self.entry.image.now self.entry.n from index sub false }
+    {
+        let Entries { image, n } = self;
+        let mut missing = LookupError::NoObject;
+        let mut i = from;
+        // No `for`: a turn begins with a skip of any length.
+        while i < n as usize {
+            i = self.skip(i, index, index);
+            let at = 2 + 12 * i;
+            let e = entries::entry_at(image, at);
+            if e.index == index {
+                if e.sub == sub {
+                    return Ok(e);
+                }
+                missing = LookupError::NoSubIndex;
+            }
+            if image.len() <= at {
+                return Err(missing);
+            }
+            i += 1;
+        }
+        Err(missing)
+    }
+
+    // The number at sub-index 0 of an object, which is looked up from a position on, or the default.
+    #[tactic(auto, unfolding(protocol::specs::DictionaryImage::parameter_of))]
+    fn parameter(self, from: usize, index: u16, default: u32) -> u32
+        ensures { result ≡ parameter_of self.entry.image.now default (lookup_from self.entry.image.now self.entry.n from index 0 false) }
+    {
+        match self.lookup_from(from, index, 0) {
+            Ok(e) => entries::number(self.image, e, default),
+            Err(_) => default,
+        }
+    }
 }
 
 // The entry of an index and sub-index, or which of the two is missing.
+#[tactic(auto, using(crate::proofs::Skipping::lookup_whole))]
 pub fn lookup(image: &[u8], index: u16, sub: u8) -> Result<Entry, LookupError>
     ensures { result ≡ lookup image.now index sub }
 {
-    let n = octets::number_at::<u16, _>(image, 0) as usize;
-    lookup_from(image, 0, n, index, sub)
-}
-
-// The number at sub-index 0 of an object, which is looked up from a position on, or the default.
-#[tactic(auto, unfolding(protocol::specs::DictionaryImage::parameter_of))]
-fn parameter(image: &[u8], from: usize, n: usize, index: u16, default: u32) -> u32
-    requires { n ≤ 65535 }
-    ensures { result ≡ parameter_of image.now default (lookup_from image.now n from index 0 false) }
-{
-    match lookup_from(image, from, n, index, 0) {
-        Ok(e) => entries::number(image, e, default),
-        Err(_) => default,
-    }
+    Entries::of(image).lookup_from(0, index, sub)
 }
 
 // The two parameters in one pass: both are looked up from the first entries on whose index is near theirs.
+#[tactic(auto, unfolding(protocol::specs::DictionaryImage::timeout_of, protocol::specs::Constants::TIMEOUT_INDEX, protocol::specs::Constants::DEFAULT_TIMEOUT, protocol::specs::DictionaryImage::retries_of, protocol::specs::Constants::RETRIES_INDEX, protocol::specs::Constants::DEFAULT_RETRIES), using(crate::proofs::Skipping::lookup_whole))]
 pub fn parameters_in(image: &[u8]) -> Parameters
     ensures timeout { result.timeout ≡ timeout_of image.now }
     ensures retries { result.retries ≡ retries_of image.now }
 {
-    let n = octets::number_at::<u16, _>(image, 0) as usize;
-    let i = skip(image, 0, n, NEAR_LOW, NEAR_HIGH);
+    let listed = Entries::of(image);
+    let i = listed.skip(0, NEAR_LOW, NEAR_HIGH);
     Parameters {
-        timeout: parameter(image, i, n, TIMEOUT_INDEX, DEFAULT_TIMEOUT),
-        retries: parameter(image, i, n, RETRIES_INDEX, DEFAULT_RETRIES),
+        timeout: listed.parameter(i, TIMEOUT_INDEX, DEFAULT_TIMEOUT),
+        retries: listed.parameter(i, RETRIES_INDEX, DEFAULT_RETRIES),
     }
 }
 
 // The timeout of a transfer in milliseconds.
+#[tactic(auto, unfolding(protocol::specs::DictionaryImage::timeout_of, protocol::specs::Constants::TIMEOUT_INDEX, protocol::specs::Constants::DEFAULT_TIMEOUT), using(crate::proofs::Skipping::lookup_whole))]
 pub fn timeout(image: &[u8]) -> u32
     ensures { result ≡ timeout_of image.now }
 {
-    let n = octets::number_at::<u16, _>(image, 0) as usize;
-    parameter(image, 0, n, TIMEOUT_INDEX, DEFAULT_TIMEOUT)
+    Entries::of(image).parameter(0, TIMEOUT_INDEX, DEFAULT_TIMEOUT)
 }

@@ -4,10 +4,10 @@ use mathlib.Core.Path.{◌≡◌}
 use mathlib.Core.Bool.{false}
 use Rattle.dictionary.specs.Skipping.{lookup_from}
 use Rattle.dictionary.proofs.Missing.{is_seen}
-use Rattle.dictionary.proofs.lookup_from.Given as goal
+use Rattle.dictionary.proofs.Entries.lookup_from.Given as goal
 
 abbrev pub invariant-loop-i : goal.invariant-loop-i
-invariant-loop-i l = lookup_from l.image l.n l.from l.index l.sub false ≡ lookup_from l.image l.n l.i l.index l.sub (is_seen l.missing)
+invariant-loop-i l = lookup_from l.self.image.now l.self.n l.from l.index l.sub false ≡ lookup_from l.self.image.now l.self.n l.i l.index l.sub (is_seen l.missing)
 
 abbrev pub decreases-loop-i : goal.decreases-loop-i
-decreases-loop-i l = l.n - l.i
+decreases-loop-i l = l.self.n - l.i
