@@ -5,11 +5,11 @@ ghost use Rattle.std.specs.Prelude.{◌≡◌, List, [], ℕ};
 ghost use Rattle.protocol.specs.Constants.{INVALID_COMMAND};
 ghost use Rattle.protocol.specs.Command.{flag_places, total_number, with_payload, decode_command};
 ghost use Rattle.protocol.specs.TransferRecord.{told_action, aborts, write_by_index};
-ghost use Rattle.protocol.specs.ConnectionRecord.{nil, dispatch, command_in, command_layer, on_decoding};
+ghost use Rattle.protocol.specs.ConnectionRecord.{nil, dispatch, command_layer, on_decoding};
 
+use handlers::NIL;
 use protocol::{
     AbortCode, Action, Body, CommandId, CommandLayerHeader, Connection, SdoCommand, SdoServerState,
-    Segmentation,
 };
 
 // A Nil command with no payload.
@@ -18,12 +18,9 @@ pub fn nil(response: bool, aborted: bool) -> SdoCommand
 {
     SdoCommand {
         header: CommandLayerHeader {
-            transaction: 0,
             response,
             aborted,
-            segmentation: Segmentation::Expedited,
-            id: CommandId::Nil,
-            size: 0,
+            ..NIL
         },
         total: None,
     }
@@ -93,26 +90,8 @@ fn write_command(
     )
 }
 
-// A command by the record's state.
-#[tactic(auto, unfolding(protocol::specs::ConnectionRecord::command_in))]
-fn command_in(
-    c: Connection,
-    share: &mut [u8],
-    image: &mut [u8],
-    clock: u64,
-    m: SdoCommand,
-    payload: &[u8],
-) -> Action
-    ensures { told_action result share.new image.new ≡ command_in c share.old image.old clock c.state (with_payload m payload.now) }
-{
-    if let SdoServerState::SegmentedUpload(t) = c.state {
-        return uploads::upload_command(c, image, clock, t, m);
-    }
-    dispatch(c, share, image, clock, m, payload)
-}
-
-// The command layer. The client's own abort is answered by an empty aborted Nil and resets no number.
-#[tactic(auto, unfolding(protocol::specs::ConnectionRecord::command_layer, picks::specs::Pick::pick))]
+// The command layer. The client's own abort is answered by an empty aborted Nil and resets no number, and an upload bars what does not ask for its next piece.
+#[tactic(auto, unfolding(protocol::specs::ConnectionRecord::command_layer, protocol::specs::ConnectionRecord::command_in, picks::specs::Pick::pick))]
 pub fn process_command_layer(
     c: Connection,
     share: &mut [u8],
@@ -130,7 +109,10 @@ pub fn process_command_layer(
             body: Body::Nothing,
         };
     }
-    command_in(c, share, image, clock, m, payload)
+    if let SdoServerState::SegmentedUpload(t) = c.state {
+        return uploads::upload_command(c, image, clock, t, m);
+    }
+    dispatch(c, share, image, clock, m, payload)
 }
 
 // The bytes of a command: what the command layer makes of them, or the abort of an undecodable one.

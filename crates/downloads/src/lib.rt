@@ -1,8 +1,9 @@
 // WriteByIndex: the data of a running download, and the four kinds of a write (handlers.rs). The client's own share of the area is lent to what a download stores.
 #![tactic(auto)]
 
-ghost use Rattle.std.specs.Prelude.{◌≡◌, ℕ, ◌+◌, ◌≤◌, length, ltb};
-ghost use Rattle.protocol.specs.TransferRecord.{told_action, write_segment, write_complete, download_step, write_data, write_by_index};
+ghost use Rattle.std.specs.Prelude.{◌≡◌, List, [], ℕ, ◌+◌, length, take, ltb, Some, None};
+ghost use Rattle.picks.specs.Pick.{pick};
+ghost use Rattle.protocol.specs.TransferRecord.{told_action, with_state, replies, deadline_after, write_object, download_step, write_data, write_by_index};
 
 use protocol::{AbortCode, Action, Connection, SdoServerState, SdoTransferState, Segmentation};
 
@@ -13,31 +14,30 @@ fn is_beyond(total: u32, offset: u32, n: usize) -> bool
     (offset as usize).saturating_add(n) > total as usize
 }
 
-// Where data ends that does not go beyond the total.
-fn end_of(t: SdoTransferState, bytes: &[u8]) -> u32
-    requires { t.offset + length bytes.now ≤ t.total }
-    ensures { result ≡ t.offset + length bytes.now }
+// Where data ends, unless it goes beyond the total.
+#[tactic(auto, unfolding(picks::specs::Pick::pick))]
+fn end_of(t: SdoTransferState, bytes: &[u8]) -> Option<u32>
+    ensures { result ≡ pick (ltb t.total (t.offset + length bytes.now)) None (Some (t.offset + length bytes.now)) }
 {
-    t.offset + bytes.len() as u32
+    if is_beyond(t.total, t.offset, bytes.len()) {
+        return None;
+    }
+    Some(t.offset + bytes.len() as u32)
 }
 
-// A Segment write: its data is stored after what is there.
-#[tactic(auto, unfolding(protocol::specs::TransferRecord::write_segment))]
+// A Segment write whose data is stored: the download goes on where it ends.
 fn write_segment(
     c: Connection,
-    share: &mut [u8],
     image: &[u8],
     clock: u64,
     transaction: u8,
     t: SdoTransferState,
-    bytes: &[u8],
+    end: u32,
 ) -> Action
-    requires { t.offset + length bytes.now ≤ t.total }
-    ensures { told_action result share.new image.now ≡ write_segment c share.old image.now clock transaction t bytes.now }
+    ensures { (share : List ℕ) → told_action result share image.now ≡ replies (with_state c (SdoServerState.SegmentedDownload (record t { offset = end; deadline = Some (deadline_after image.now clock) }))) share image.now transaction [] }
 {
-    octets::copy_at(share, t.offset as usize, bytes);
     let next = SdoTransferState {
-        offset: end_of(t, bytes),
+        offset: end,
         deadline: Some(state::deadline_after(image, clock)),
         ..t
     };
@@ -45,30 +45,23 @@ fn write_segment(
     handlers::acknowledge(next, transaction)
 }
 
-// A Complete write: the object is written from the share.
-#[tactic(auto, unfolding(protocol::specs::TransferRecord::write_complete, picks::specs::Pick::pick))]
+// A Complete write whose data is stored: the object is written from the share.
 fn write_complete(
     c: Connection,
-    share: &mut [u8],
+    share: &[u8],
     image: &mut [u8],
     transaction: u8,
     t: SdoTransferState,
-    bytes: &[u8],
 ) -> Action
-    requires { t.offset + length bytes.now ≤ t.total }
-    ensures { (clock : ℕ) → told_action result share.new image.new ≡ write_complete c share.old image.old clock transaction t bytes.now }
+    ensures { (clock : ℕ) → told_action result share.now image.new ≡ write_object c share.now image.old clock transaction (with_state c SdoServerState.Established) t.index t.sub (take t.total share.now) }
 {
-    if end_of(t, bytes) < t.total {
-        return handlers::abort(c, transaction, AbortCode::LengthTooLow as u32);
-    }
-    octets::copy_at(share, t.offset as usize, bytes);
     let value = octets::part(share, 0, t.total as usize);
     let next = state::with_state(c, SdoServerState::Established);
     writes::write_object(c, next, image, transaction, t.index, t.sub, value)
 }
 
 // Data of a running download.
-#[tactic(auto, unfolding(protocol::specs::TransferRecord::download_step, picks::specs::Pick::pick))]
+#[tactic(auto, unfolding(protocol::specs::TransferRecord::download_step, protocol::specs::TransferRecord::write_segment, protocol::specs::TransferRecord::write_complete, picks::specs::Pick::pick))]
 fn download_step(
     c: Connection,
     share: &mut [u8],
@@ -84,13 +77,17 @@ fn download_step(
     if t.transaction != transaction {
         return handlers::abort(c, transaction, AbortCode::GeneralError as u32);
     }
-    if is_beyond(t.total, t.offset, bytes.len()) {
+    let Some(end) = end_of(t, bytes) else {
         return handlers::abort(c, transaction, AbortCode::LengthMisfit as u32);
+    };
+    if complete & (end < t.total) {
+        return handlers::abort(c, transaction, AbortCode::LengthTooLow as u32);
     }
+    octets::copy_at(share, t.offset as usize, bytes);
     if complete {
-        write_complete(c, share, image, transaction, t, bytes)
+        write_complete(c, share, image, transaction, t)
     } else {
-        write_segment(c, share, image, clock, transaction, t, bytes)
+        write_segment(c, image, clock, transaction, t, end)
     }
 }
 

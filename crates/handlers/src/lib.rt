@@ -5,11 +5,21 @@ ghost use Rattle.std.specs.Prelude.{◌≡◌, List, [], ℕ, length, take, ltb}
 ghost use Rattle.picks.specs.Pick.{pick};
 ghost use Rattle.octets.specs.Octets.{le};
 ghost use Rattle.protocol.specs.DictionaryImage.{value_of};
-ghost use Rattle.protocol.specs.TransferRecord.{body_bytes, body_part, told_action, aborts, replies, new_upload, read_value, read_by_index, max_segment_size};
+ghost use Rattle.protocol.specs.TransferRecord.{body_bytes, body_part, told_action, aborts, replies, read_value, read_by_index, max_segment_size};
 
 use protocol::{
     AbortCode, Action, Body, CommandId, CommandLayerHeader, Connection, Entry,
     MAX_EXPEDITED_PAYLOAD, SdoCommand, SdoServerState, SdoTransferState, Segmentation,
+};
+
+// The header of an empty Nil response: a header under that id says only what differs.
+pub const NIL: CommandLayerHeader = CommandLayerHeader {
+    transaction: 0,
+    response: true,
+    aborted: false,
+    segmentation: Segmentation::Expedited,
+    id: CommandId::Nil,
+    size: 0,
 };
 
 // An abort: the record is closed and its numbers are reset.
@@ -18,11 +28,9 @@ pub fn abort(c: Connection, transaction: u8, code: u32) -> Action
 {
     let header = CommandLayerHeader {
         transaction,
-        response: true,
         aborted: true,
-        segmentation: Segmentation::Expedited,
-        id: CommandId::Nil,
         size: 4,
+        ..NIL
     };
     Action {
         connection: state::moved(c, 0, 63, SdoServerState::Closed),
@@ -40,11 +48,8 @@ fn reply(c: Connection, transaction: u8, size: u16, body: Body) -> Action
 {
     let header = CommandLayerHeader {
         transaction,
-        response: true,
-        aborted: false,
-        segmentation: Segmentation::Expedited,
-        id: CommandId::Nil,
         size,
+        ..NIL
     };
     Action {
         connection: c,
@@ -61,22 +66,6 @@ pub fn acknowledge(c: Connection, transaction: u8) -> Action
     ensures { (share image : List ℕ) → told_action result share image ≡ replies c share image transaction [] }
 {
     reply(c, transaction, 0, Body::Nothing)
-}
-
-// The transfer of an upload that has sent nothing.
-fn new_upload(transaction: u8, total: u32, index: u16, sub: u8) -> SdoTransferState
-    ensures { (c : Connection) (share image : List ℕ) (clock : ℕ) → result ≡ new_upload c share image clock transaction total index sub }
-{
-    SdoTransferState {
-        transaction,
-        total,
-        offset: 0,
-        index,
-        sub,
-        deadline: None,
-        retries: 0,
-        stored: false,
-    }
 }
 
 // A read of an entry: its value as a part of the image, or copied into the share and sent in pieces.
@@ -99,7 +88,16 @@ fn read_entry(
         return reply(c, transaction, total as u16, Body::Image(e.body, e.length));
     }
     octets::copy_at(share, 0, value);
-    let t = new_upload(transaction, total, index, sub);
+    let t = SdoTransferState {
+        transaction,
+        total,
+        offset: 0,
+        index,
+        sub,
+        deadline: None,
+        retries: 0,
+        stored: false,
+    };
     state::advance(c, image, clock, t)
 }
 

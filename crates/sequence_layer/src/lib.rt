@@ -15,13 +15,10 @@ use protocol::{
 pub fn before_step(c: Connection, h: SequenceLayerHeader) -> Option<SdoResponseData>
     ensures { (share image : List ℕ) → told_resend result share image ≡ before_step c share h }
 {
-    match c.state {
-        SdoServerState::SegmentedUpload(t) => resend(c, h, t),
-        SdoServerState::Closed
-        | SdoServerState::Opening
-        | SdoServerState::Established
-        | SdoServerState::SegmentedDownload(_) => None,
-    }
+    let SdoServerState::SegmentedUpload(t) = c.state else {
+        return None;
+    };
+    resend(c, h, t)
 }
 
 // The stored piece of an upload under send mark 3, where it is asked for and there.
@@ -32,9 +29,8 @@ fn resend(c: Connection, h: SequenceLayerHeader, t: SdoTransferState) -> Option<
     if (h.rcon == ReceiveConnState::ErrorResponse) & t.stored {
         let header = SequenceLayerHeader {
             receive: h.send,
-            rcon: ReceiveConnState::ConnectionValid,
-            send: c.send,
             scon: SendConnState::ConnectionValidAckRequest,
+            ..answer_marked(c)
         };
         return Some(response(header, state::stored_piece(t)));
     }
@@ -53,7 +49,7 @@ pub fn response(header: SequenceLayerHeader, p: Piece) -> SdoResponseData
 }
 
 // An answer's header under marks 2.
-fn answer_marked(c: Connection) -> SequenceLayerHeader
+pub fn answer_marked(c: Connection) -> SequenceLayerHeader
     ensures { result ≡ answer_marked c }
 {
     SequenceLayerHeader {

@@ -6,8 +6,8 @@ ghost use Rattle.protocol.specs.ConnectionRecord.{told_reply};
 ghost use Rattle.protocol.specs.ConnectionTable.{ticks, times_out, retried, tick_upload};
 
 use protocol::{
-    AbortCode, Connection, Left, ReceiveConnState, SdoResponseData, SdoServerState,
-    SdoTransferState, SendConnState, SequenceLayerHeader,
+    AbortCode, Connection, Left, SdoResponseData, SdoServerState, SdoTransferState, SendConnState,
+    SequenceLayerHeader,
 };
 
 // A transfer that is given up.
@@ -17,10 +17,8 @@ pub fn times_out(c: Connection, t: SdoTransferState) -> Left<SdoResponseData>
     let a = handlers::abort(c, t.transaction, u32::from(AbortCode::TimedOut));
     let next = a.connection;
     let header = SequenceLayerHeader {
-        receive: next.receive,
-        rcon: ReceiveConnState::ConnectionValid,
-        send: next.send,
         scon: SendConnState::NoConnection,
+        ..sequence_layer::answer_marked(next)
     };
     Left {
         connection: next,
@@ -59,10 +57,8 @@ pub fn tick_upload(
     }
     let next = SdoServerState::SegmentedUpload(retried(t, image, clock));
     let header = SequenceLayerHeader {
-        receive: c.receive,
-        rcon: ReceiveConnState::ConnectionValid,
-        send: c.send,
         scon: SendConnState::ConnectionValidAckRequest,
+        ..sequence_layer::answer_marked(c)
     };
     Left {
         connection: state::with_state(c, next),

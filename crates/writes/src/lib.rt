@@ -3,7 +3,7 @@
 
 ghost use Rattle.std.specs.Prelude.{◌≡◌, List, ℕ, min};
 ghost use Rattle.protocol.specs.Constants.{OFFSET_MAX};
-ghost use Rattle.protocol.specs.TransferRecord.{told_action, write_object, write_expedited, new_download, write_initiate};
+ghost use Rattle.protocol.specs.TransferRecord.{told_action, write_object, write_expedited, write_initiate};
 
 use protocol::{AbortCode, Action, Connection, SHARE, SdoServerState, SdoTransferState};
 
@@ -51,30 +51,7 @@ fn first_offset(n: usize) -> u32
     u32::try_from(n).unwrap_or(u32::MAX)
 }
 
-// A download that an Initiate begins: its first data is stored in the share.
-fn new_download(
-    image: &[u8],
-    clock: u64,
-    transaction: u8,
-    total: u32,
-    payload: &[u8],
-) -> SdoTransferState
-    ensures { (c : Connection) (share : List ℕ) → result ≡ new_download c share image.now clock transaction total payload.now }
-{
-    let n = octets::rest(payload, 4).len();
-    SdoTransferState {
-        transaction,
-        total,
-        offset: first_offset(n),
-        index: octets::number_at(payload, 0),
-        sub: octets::byte_at(payload, 2),
-        deadline: Some(state::deadline_after(image, clock)),
-        retries: 0,
-        stored: false,
-    }
-}
-
-// An Initiate write.
+// An Initiate write: its first data is stored in the share.
 #[tactic(auto, unfolding(protocol::specs::TransferRecord::write_initiate, picks::specs::Pick::pick, protocol::specs::Constants::SHARE))]
 pub fn write_initiate(
     c: Connection,
@@ -96,8 +73,18 @@ pub fn write_initiate(
     if SHARE < total {
         return handlers::abort(c, transaction, AbortCode::OutOfMemory as u32);
     }
-    octets::copy_at(share, 0, octets::rest(payload, 4));
-    let t = new_download(image, clock, transaction, total, payload);
+    let first = octets::rest(payload, 4);
+    octets::copy_at(share, 0, first);
+    let t = SdoTransferState {
+        transaction,
+        total,
+        offset: first_offset(first.len()),
+        index: octets::number_at(payload, 0),
+        sub: octets::byte_at(payload, 2),
+        deadline: Some(state::deadline_after(image, clock)),
+        retries: 0,
+        stored: false,
+    };
     let next = state::with_state(c, SdoServerState::SegmentedDownload(t));
     handlers::acknowledge(next, transaction)
 }
