@@ -3,7 +3,7 @@
 
 ghost use Rattle.std.specs.Prelude.{◌≡◌, List, [], ℕ, ◌+◌, length, take, ltb, Some, None};
 ghost use Rattle.picks.specs.Pick.{pick};
-ghost use Rattle.protocol.specs.TransferRecord.{told_action, with_state, replies, deadline_after, write_object, download_step, write_data, write_by_index};
+ghost use Rattle.protocol.specs.TransferRecord.{told_action, with_state, replies, deadline_after, write_object, write_data, write_by_index};
 
 use protocol::{AbortCode, Action, Connection, SdoServerState, SdoTransferState, Segmentation};
 
@@ -60,20 +60,22 @@ fn write_complete(
     writes::write_object(c, next, image, transaction, t.index, t.sub, value)
 }
 
-// Data of a running download.
-#[tactic(auto, unfolding(protocol::specs::TransferRecord::download_step, protocol::specs::TransferRecord::write_segment, protocol::specs::TransferRecord::write_complete, picks::specs::Pick::pick))]
-fn download_step(
+// A Segment or a Complete write: their tests are the same but for one, and `complete` tells them apart.
+#[tactic(auto, unfolding(protocol::specs::TransferRecord::write_data, protocol::specs::TransferRecord::download_step, protocol::specs::TransferRecord::write_segment, protocol::specs::TransferRecord::write_complete, picks::specs::Pick::pick))]
+fn write_data(
     c: Connection,
     share: &mut [u8],
     image: &mut [u8],
     clock: u64,
     transaction: u8,
     complete: bool,
-    t: SdoTransferState,
     bytes: &[u8],
 ) -> Action
-    ensures { told_action result share.new image.new ≡ download_step c share.old image.old clock transaction complete t bytes.now }
+    ensures { told_action result share.new image.new ≡ write_data c share.old image.old clock transaction complete bytes.now c.state }
 {
+    let SdoServerState::SegmentedDownload(t) = c.state else {
+        return handlers::abort(c, transaction, AbortCode::InvalidSequence as u32);
+    };
     if t.transaction != transaction {
         return handlers::abort(c, transaction, AbortCode::GeneralError as u32);
     }
@@ -89,25 +91,6 @@ fn download_step(
     } else {
         write_segment(c, image, clock, transaction, t, end)
     }
-}
-
-// A Segment or a Complete write: their tests are the same, and `complete` tells them apart behind those.
-#[tactic(auto, unfolding(protocol::specs::TransferRecord::write_data))]
-fn write_data(
-    c: Connection,
-    share: &mut [u8],
-    image: &mut [u8],
-    clock: u64,
-    transaction: u8,
-    complete: bool,
-    bytes: &[u8],
-) -> Action
-    ensures { told_action result share.new image.new ≡ write_data c share.old image.old clock transaction complete bytes.now c.state }
-{
-    let SdoServerState::SegmentedDownload(t) = c.state else {
-        return handlers::abort(c, transaction, AbortCode::InvalidSequence as u32);
-    };
-    download_step(c, share, image, clock, transaction, complete, t, bytes)
 }
 
 // WriteByIndex.

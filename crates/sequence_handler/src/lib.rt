@@ -134,26 +134,8 @@ fn on_step(
     }
 }
 
-// A frame whose header is read: before the step, the step, and after it.
-#[tactic(auto, unfolding(protocol::specs::ConnectionRecord::on_before))]
-fn with_header(
-    c: Connection,
-    share: &mut [u8],
-    image: &mut [u8],
-    clock: u64,
-    h: SequenceLayerHeader,
-    body: &[u8],
-) -> Left<Result<SdoResponseData, Refusal>>
-    ensures { (request : List ℕ) → body.now ≡ command_part request → told_handled result share.new image.new ≡ on_before c share.old image.old clock request h (before_step c share.old h) }
-{
-    match sequence_layer::before_step(c, h) {
-        Some(r) => answered(c, r),
-        None => on_step(c, share, image, clock, h, body),
-    }
-}
-
-// A whole request on one record.
-#[tactic(auto, unfolding(protocol::specs::ConnectionRecord::serve, protocol::specs::ConnectionRecord::on_header))]
+// A whole request on one record: before the step, the step, and after it.
+#[tactic(auto, unfolding(protocol::specs::ConnectionRecord::serve, protocol::specs::ConnectionRecord::on_header, protocol::specs::ConnectionRecord::on_before))]
 pub fn handle_request(
     c: Connection,
     share: &mut [u8],
@@ -166,7 +148,10 @@ pub fn handle_request(
     let Ok(h) = sequence::deserialize(request) else {
         return refused(c, Refusal::Short);
     };
-    with_header(c, share, image, clock, h, sequence::command_part(request))
+    if let Some(r) = sequence_layer::before_step(c, h) {
+        return answered(c, r);
+    }
+    on_step(c, share, image, clock, h, sequence::command_part(request))
 }
 
 // A tick on a record that is due.

@@ -3,29 +3,21 @@
 
 ghost use Rattle.std.specs.Prelude.{◌≡◌, List, ◌&&◌, ℕ, eqb};
 ghost use Rattle.protocol.specs.SequenceHeader.{send_mark};
-ghost use Rattle.protocol.specs.ConnectionRecord.{told_step, stepped, misfit, told_resend, before_in, before_step, answer_marked, closed_step, opening_step, acknowledged, acknowledge, later_step, sequence_step};
+ghost use Rattle.protocol.specs.ConnectionRecord.{told_step, stepped, misfit, told_resend, before_step, answer_marked, closed_step, opening_step, acknowledged, acknowledge, later_step, sequence_step};
 
 use protocol::{
     Connection, Left, Misfit, Piece, ReceiveConnState, SdoResponseData, SdoServerState,
     SdoTransferState, SendConnState, SequenceLayerHeader,
 };
 
-// Before the sequence step: receive mark 3 in an upload with a stored piece resends it.
-#[tactic(auto, unfolding(protocol::specs::ConnectionRecord::before_step, protocol::specs::ConnectionRecord::before_in))]
+// Before the sequence step: receive mark 3 in an upload with a stored piece resends it, under send mark 3.
+#[tactic(auto, unfolding(protocol::specs::ConnectionRecord::before_step, protocol::specs::ConnectionRecord::before_in, picks::specs::Pick::pick))]
 pub fn before_step(c: Connection, h: SequenceLayerHeader) -> Option<SdoResponseData>
     ensures { (share image : List ℕ) → told_resend result share image ≡ before_step c share h }
 {
     let SdoServerState::SegmentedUpload(t) = c.state else {
         return None;
     };
-    resend(c, h, t)
-}
-
-// The stored piece of an upload under send mark 3, where it is asked for and there.
-#[tactic(auto, unfolding(protocol::specs::ConnectionRecord::before_in, picks::specs::Pick::pick))]
-fn resend(c: Connection, h: SequenceLayerHeader, t: SdoTransferState) -> Option<SdoResponseData>
-    ensures { (share image : List ℕ) → told_resend result share image ≡ before_in (SdoServerState.SegmentedUpload t) c share h }
-{
     if (h.rcon == ReceiveConnState::ErrorResponse) & t.stored {
         let header = SequenceLayerHeader {
             receive: h.send,
