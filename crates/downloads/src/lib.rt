@@ -26,6 +26,7 @@ fn end_of(t: SdoTransferState, bytes: &[u8]) -> Option<u32>
 }
 
 // A Segment write whose data is stored: the download goes on where it ends.
+// (the transfer by update: it names the numbers that change and no other)
 fn write_segment(
     c: Connection,
     image: &[u8],
@@ -94,6 +95,7 @@ fn write_data(
 }
 
 // WriteByIndex.
+// (Segment and Complete go one way, with a bool: each with a function of its own would repeat the tests of write_data)
 pub fn write_by_index(
     c: Connection,
     share: &mut [u8],
