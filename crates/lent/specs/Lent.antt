@@ -1,6 +1,5 @@
 -- What the functions over lent records say of them.
-use Rattle.std.specs.Prelude.{ℕ, List, ltb, Option, Some, None}
-use Rattle.picks.specs.Pick.{pick}
+use Rattle.std.specs.Prelude.{ℕ, List}
 use Rattle.protocol.specs.declared.Connection.{Connection}
 use Rattle.protocol.specs.Coding.{Answer}
 use Rattle.protocol.specs.Calls.{Called}
@@ -8,7 +7,3 @@ use Rattle.protocol.specs.Calls.{Called}
 -- what a call with a lent table returns, and what it leaves of all that was lent to it
 abbrev pub called : {A : Type 0} → Answer A → List ℕ → List Connection → List ℕ → List ℕ → Called A
 called r answer table area image = record { returned = r; answer = answer; table = table; area = area; image = image }
-
--- a place of a table of n records, or past its end none
-abbrev pub due_in : ℕ → ℕ → Option ℕ
-due_in i n = pick (ltb i n) (Some i) None

@@ -3,11 +3,10 @@
 
 ghost use Rattle.std.specs.Prelude.{◌≡◌, ◌≢◌, length, IfOk, IfErr};
 ghost use Rattle.protocol.specs.declared.Refusal.TheVariants.{Lent};
-ghost use Rattle.protocol.specs.ConnectionTable.{earliest, chosen};
 ghost use Rattle.protocol.specs.Request.{told_outcome, request_of};
 ghost use Rattle.protocol.specs.Tick.{told_ticked, tick_of};
 ghost use Rattle.protocol.specs.DeadlineQuery.{told_next_action, query_of};
-ghost use Rattle.lent.specs.Lent.{called, due_in};
+ghost use Rattle.lent.specs.Lent.{called};
 
 use protocol::{Answered, Connection, Refusal, SdoClientInfo};
 
@@ -38,13 +37,6 @@ pub fn handle_request(
     called.outcome
 }
 
-// The place of the first due record of a lent table of any length.
-pub fn first_due(table: &[Connection], clock: u64) -> Option<usize>
-    ensures { result ≡ due_in (chosen table.now clock) (length table.now) }
-{
-    table.iter().position(|c| transfers::is_due(*c, clock))
-}
-
 // A tick of the clock.
 pub fn tick<'t, 'a, 'b>(
     table: &'t mut [Connection],
@@ -56,20 +48,10 @@ pub fn tick<'t, 'a, 'b>(
     ensures { called (told_ticked result) answer.new table.new area.now image.now ≡ tick_of clock image.now answer.old table.old area.now }
 {
     let row = *row_of(table)?;
-    let due = first_due(table, clock);
+    let due = table::due_place(table, clock);
     let called = server::tick_at(row, due, area, image, answer, clock);
     table.copy_from_slice(&called.table);
     called.outcome
-}
-
-// The earliest deadline of a lent table of any length.
-pub fn earliest(table: &[Connection]) -> Option<u64>
-    ensures { result ≡ earliest table.now }
-{
-    table.iter().fold(
-        None,
-        |d, c| transfers::earlier(d, transfers::deadline_of(*c)),
-    )
 }
 
 // The earliest deadline of a lent table of eight.
@@ -77,7 +59,7 @@ pub fn next_action_time(table: &[Connection]) -> Result<Option<u64>, Refusal>
     ensures { told_next_action result ≡ query_of table.now }
 {
     if table::is_sound(*row_of(table)?) {
-        return Ok(earliest(table));
+        return Ok(table::earliest(table));
     }
     Err(Refusal::Table)
 }

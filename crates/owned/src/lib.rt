@@ -10,7 +10,7 @@ use protocol::{Answered, Called, Connection, Refusal, SdoClientInfo};
 
 // A request from a client.
 pub fn handle_request(
-    t: [Connection; 8],
+    mut t: [Connection; 8],
     area: &mut [u8],
     image: &mut [u8],
     answer: &mut [u8],
@@ -20,17 +20,13 @@ pub fn handle_request(
 ) -> Called<Answered>
     ensures { told_requested result answer.new area.new image.new ≡ request_of client clock request.now image.old answer.old t area.old }
 {
-    let mut row = t;
-    let outcome = lent::handle_request(&mut row, area, image, answer, client, clock, request);
-    Called {
-        outcome,
-        table: row,
-    }
+    let outcome = lent::handle_request(&mut t, area, image, answer, client, clock, request);
+    Called { outcome, table: t }
 }
 
 // A tick of the clock.
 pub fn tick<'a, 'b>(
-    t: [Connection; 8],
+    mut t: [Connection; 8],
     area: &'a [u8],
     image: &'a [u8],
     answer: &'b mut [u8],
@@ -38,12 +34,8 @@ pub fn tick<'a, 'b>(
 ) -> Called<Option<Answered>>
     ensures { told_ticked_row result answer.new area.now image.now ≡ tick_of clock image.now answer.old t area.now }
 {
-    let mut row = t;
-    let outcome = lent::tick(&mut row, area, image, answer, clock);
-    Called {
-        outcome,
-        table: row,
-    }
+    let outcome = lent::tick(&mut t, area, image, answer, clock);
+    Called { outcome, table: t }
 }
 
 // The earliest deadline.

@@ -1,5 +1,5 @@
 -- `areas_once` as one pass with the numbers seen so far.
-use Prim.Native.Nat.{ℕ, zero, suc, ◌<◌}
+use Prim.Native.Nat.{ℕ, zero, suc, ◌<◌, ◌≤◌}
 use native.Mathlib.Omega.{arith}
 use mathlib.Core.Path.{◌≡◌, refl, sym, ap, ◌∙◌}
 use mathlib.Core.Bool.{Bool, true, false, ◌&&◌, not}
@@ -7,7 +7,7 @@ use mathlib.Core.List.{List, [], ◌∷◌}
 use lib.ListN.{length, get_or, set, replicate, length-set}
 use lib.Seq.{get_or-set_same}
 use lib.Dec.{ltb, eqb}
-use borrow.Author.Tests.{eq-eqb, ne_eqb, eqb-true, ltb-true, not-true}
+use borrow.Author.Tests.{lt-ltb, le-ltb, eq-eqb, ne_eqb, eqb-true, ltb-true, not-true}
 use Rattle.std.proofs.Math.Bool.{and-false}
 use Rattle.picks.specs.Pick.{every, count, checks}
 use Rattle.picks.proofs.Keep.{by_test, not_both, left, of_every, count_yes, count_no, every_always}
@@ -24,6 +24,16 @@ unseen seen r = ltb r.area 8 && not (get_or seen r.area false)
 
 abbrev pub mark : List Bool → Connection → List Bool
 mark seen r = set seen r.area true
+
+-- a number that is seen, one past the end, and one that is unseen
+pub seen_not : (seen : List Bool) (n : ℕ) → true ≡ get_or seen n false → (ltb n 8 && not (get_or seen n false)) ≡ false
+seen_not seen n e = rw (← e) (and-false (ltb n 8))
+
+pub past_not : (seen : List Bool) (n : ℕ) → length seen ≡ 8 → length seen ≤ n → (ltb n 8 && not (get_or seen n false)) ≡ false
+past_not seen n l h = rw (le-ltb n 8 (omega (arith, l, h)))
+
+pub unseen_so : (seen : List Bool) (n : ℕ) → length seen ≡ 8 → n < length seen → false ≡ get_or seen n false → (ltb n 8 && not (get_or seen n false)) ≡ true
+unseen_so seen n l h e = rw (lt-ltb n 8 (omega (arith, l, h)), ← e)
 
 -- tests that agree wherever another holds, and a test that fails somewhere
 every_same : {A : Type 0} (p f g : A → Bool) (xs : List A) → every p xs ≡ true → ((x : A) → p x ≡ true → f x ≡ g x) → every f xs ≡ every g xs

@@ -8,6 +8,8 @@ use mathlib.Core.List.{List, [], ◌∷◌, ◌++◌, append_assoc, append-nil}
 use lib.ListN.{length, get_or, take, drop, set, length-append, length-drop, drop_of_length-le}
 use lib.Seq.{paste, set-append_left, take-set-lt, take-suc-set, take-suc, take-take, take_all, drop-drop, drop-cons, drop_at, set_at, length-take-le}
 use borrow.Author.Tests.{lt-ltb, le-ltb}
+use Rattle.std.specs.Prelude.{Option, None, Some}
+use Rattle.std.specs.Option.{unwrap_or}
 use Rattle.picks.specs.Pick.{first}
 use Rattle.picks.proofs.Picks.{pick_t, pick_f}
 use Rattle.picks.proofs.Keep.{by_test, first_yes, first_no}
@@ -15,7 +17,7 @@ use Rattle.protocol.specs.declared.SdoClientInfo.{SdoClientInfo}
 use Rattle.protocol.specs.declared.Connection.{Connection}
 use Rattle.protocol.specs.ConnectionTable.{before, fresh, is_unused, joining}
 use Rattle.connection.specs.Among.{is_behind}
-use Rattle.table.specs.Row.{unused_place, seat_place, put_in, joined_row}
+use Rattle.table.specs.Row.{place_in, unused_place, seat_place, put_in, joined_row}
 use Rattle.table.proofs.Walk.{get_d_any}
 
 -- the elements from a place up to another moved up by one, and one put where they stood
@@ -70,6 +72,14 @@ seat_before c (r ∷ rs) =
   where
     unused_behind : r.used ≡ false → is_behind c r ≡ true
     unused_behind u = ap (λ (b : Bool). not (b && before r.client c)) u
+
+-- the place that the search for it tells, or the first unused one's, is the client's
+pub seat_told : (c : SdoClientInfo) (t : List Connection) (r : Option ℕ) (n at : ℕ) → at ≡ unwrap_or r n → place_in r ≡ seat_place c t → n ≡ unused_place t → n < 8 → (at ≡ seat_place c t) × (at ≤ n)
+seat_told c t r n at u p e h = let s = told r (rw e (seat_before c t)) p in (u ∙ s, rw (u, s, e) (seat_before c t))
+  where
+    told : (r : Option ℕ) → seat_place c t ≤ n → place_in r ≡ seat_place c t → unwrap_or r n ≡ seat_place c t
+    told None l p = absurd (omega (arith, p, h, l))
+    told (Some i) l p = p
 
 -- the client's record put in, and a full row
 module _ (c : SdoClientInfo) (t : List Connection) where

@@ -16,6 +16,10 @@ unfoldable pub used_first : List Connection → Bool
 used_first [] = true
 used_first (r ∷ rs) = pick r.used (used_first rs) (every is_unused rs)
 
+-- a place of a row of n, or past its end none
+abbrev pub due_in : ℕ → ℕ → Option ℕ
+due_in i n = pick (ltb i n) (Some i) None
+
 unfoldable pub unused_place : List Connection → ℕ
 unused_place t = first is_unused t
 

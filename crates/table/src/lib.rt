@@ -5,11 +5,12 @@ ghost use Rattle.std.specs.Prelude.{◌≡◌, true, false, not, ◌&&◌, [], �
 ghost use Rattle.picks.specs.Pick.{pick, first, every};
 ghost use Rattle.protocol.specs.ConnectionTable.{unused_of, fresh, holds, place_of, record_of, update, is_known, join, release, sound_record, chosen, earliest, ordered, areas_once, sound_table};
 ghost use Rattle.connection.specs.Among.{is_gone};
-ghost use Rattle.table.specs.Row.{place_in, unused_place, seat_place, put_in, joined_row, dropped_at, drops_first};
+ghost use Rattle.table.specs.Row.{place_in, due_in, unused_place, seat_place, put_in, joined_row, dropped_at, drops_first};
 
 use protocol::{Connection, SdoClientInfo};
 
 // The place of the client's record.
+// (each search here is one position with a test of its own; that the place is one of the eight is a clause, since no type says so of an index)
 pub fn place_of(t: [Connection; 8], client: SdoClientInfo) -> Option<usize>
     ensures place { place_in result ≡ place_of client t }
     ensures inside { IfSome result (λ i. i < 8) }
@@ -17,22 +18,33 @@ pub fn place_of(t: [Connection; 8], client: SdoClientInfo) -> Option<usize>
     t.iter().position(|c| connection::is_held(*c, client))
 }
 
+// The place of the first due one of any number of records.
+pub fn due_place(rows: &[Connection], clock: u64) -> Option<usize>
+    ensures { result ≡ due_in (chosen rows.now clock) (length rows.now) }
+{
+    rows.iter().position(|c| transfers::is_due(*c, clock))
+}
+
 // The place of the first record that is due.
 pub fn first_due(t: [Connection; 8], clock: u64) -> Option<usize>
     ensures place { place_in result ≡ chosen t clock }
     ensures inside { IfSome result (λ i. i < 8) }
 {
-    t.iter().position(|c| transfers::is_due(*c, clock))
+    due_place(&t, clock)
+}
+
+// The earliest deadline of any number of records.
+pub fn earliest(rows: &[Connection]) -> Option<u64>
+    ensures { result ≡ earliest rows.now }
+{
+    rows.iter().filter_map(|c| transfers::deadline_of(*c)).min()
 }
 
 // The earliest deadline of the row.
 pub fn next_deadline(t: [Connection; 8]) -> Option<u64>
     ensures { result ≡ earliest t }
 {
-    t.iter().fold(
-        None,
-        |d, c| transfers::earlier(d, transfers::deadline_of(*c)),
-    )
+    earliest(&t)
 }
 
 // The place of the first unused record.
@@ -51,6 +63,7 @@ pub fn is_full(t: [Connection; 8], client: SdoClientInfo) -> bool
 }
 
 // Used records come first, clients strictly ascending, and unused ones are fresh.
+// (packed calls is_sorted_by with the tests that it has of bytes: what the two share is that call)
 fn is_ordered(t: [Connection; 8]) -> bool
     ensures { result ≡ ordered t }
 {
@@ -59,21 +72,23 @@ fn is_ordered(t: [Connection; 8]) -> bool
 }
 
 // Area numbers 0 to 7, each once.
+// (packed has this loop with the number read from a record's bytes: a shared one would want the eight numbers copied out)
 fn areas_once(t: [Connection; 8]) -> bool
     ensures { result ≡ areas_once t }
 {
     let mut seen = [false; 8];
     for c in &t {
         let n = c.area as usize;
-        if 8 <= n || seen[n] {
+        let Some(false) = seen.get(n) else {
             return false;
-        }
+        };
         seen[n] = true;
     }
     true
 }
 
 // Whether every record is sound.
+// (packed stops at the first unused record, which in an ordered table is fresh; here a row may be in any order)
 fn records_sound(t: [Connection; 8]) -> bool
     ensures { result ≡ every sound_record t }
 {
@@ -96,38 +111,18 @@ fn seat_place(t: [Connection; 8], client: SdoClientInfo) -> Option<usize>
     t.iter().position(|c| connection::is_behind(*c, client))
 }
 
-// The row with a record put at a place and those from there up to place n moved up by one; the one at place n is lost.
-fn put_in(t: [Connection; 8], at: usize, n: usize, c: Connection) -> [Connection; 8]
-    requires at_within { at ≤ n }
-    requires n_within { n < 8 }
-    ensures { result ≡ put_in at n c t }
-{
-    let mut r = t;
-    r[at..=n].rotate_right(1);
-    r[at] = c;
-    r
-}
-
-// The row with what stands behind a place moved down by one, and a record at the end.
-fn put_last(t: [Connection; 8], at: usize, c: Connection) -> [Connection; 8]
-    requires { at < 8 }
-    ensures { result ≡ take at t ++ drop (suc at) t ++ (c ∷ []) }
-{
-    let mut r = t;
-    r[at..].rotate_left(1);
-    r[7] = c;
-    r
-}
-
 // The row with the client's record in its place, under the first unused one's number; a full row stays.
-fn joined(t: [Connection; 8], client: SdoClientInfo) -> [Connection; 8]
+fn joined(mut t: [Connection; 8], client: SdoClientInfo) -> [Connection; 8]
     ensures { result ≡ joined_row client t }
 {
     let Some(n) = unused_place(t) else {
         return t;
     };
     let at = seat_place(t, client).unwrap_or(n);
-    put_in(t, at, n, connection::joining(client, t[n].area))
+    let c = connection::joining(client, t[n].area);
+    t[at..=n].rotate_right(1);
+    t[at] = c;
+    t
 }
 
 // The row where the client has a record: its own, or one that it joins with.
@@ -142,6 +137,7 @@ pub fn seated(t: [Connection; 8], client: SdoClientInfo) -> [Connection; 8]
 }
 
 // The record at a place; past the end a fresh one.
+// (the row comes first, as a receiver would: it is an array, as document 01 has it, and an array takes no methods)
 pub fn record_at(t: [Connection; 8], i: usize) -> Connection
     ensures { result ≡ get_or t i (fresh 0) }
 {
@@ -159,10 +155,11 @@ pub fn record_of(t: [Connection; 8], client: SdoClientInfo) -> Connection
 }
 
 // The row with another record at a place; past the end it stays.
+// (a slice's get_mut says nothing of what is written through it, so with it the proof does not close)
 pub fn replaced(mut t: [Connection; 8], i: usize, c: Connection) -> [Connection; 8]
     ensures { result ≡ set t i c }
 {
-    if i < 8 {
+    if i < t.len() {
         t[i] = c;
     }
     t
@@ -179,11 +176,13 @@ pub fn updated(mut t: [Connection; 8], client: SdoClientInfo, c: Connection) -> 
 }
 
 // The row without the record at a place, whose area number goes to the last unused one.
-pub fn dropped_at(t: [Connection; 8], i: usize) -> [Connection; 8]
+pub fn dropped_at(mut t: [Connection; 8], i: usize) -> [Connection; 8]
     ensures { result ≡ dropped_at i t }
 {
-    if i < 8 {
-        return put_last(t, i, connection::fresh(t[i].area));
+    if let Some(c) = t.get(i) {
+        let last = connection::fresh(c.area);
+        t[i..].rotate_left(1);
+        t[7] = last;
     }
     t
 }

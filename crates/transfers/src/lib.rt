@@ -50,6 +50,7 @@ pub fn sound_download(t: SdoTransferState) -> bool
 }
 
 // Whether the transfer of a state is sound.
+// (packed asks a record's bytes, and has a transfer made of them only where their state has one)
 fn sound_state(s: SdoServerState) -> bool
     ensures { result ≡ sound_state s }
 {
@@ -69,6 +70,7 @@ pub fn sound_record(c: Connection) -> bool
 }
 
 // When the transfer of a state is due.
+// (packed reads a deadline's bytes alone, with no transfer made)
 fn transfer_deadline(s: SdoServerState) -> Option<u64>
     ensures { result ≡ transfer_deadline s }
 {
@@ -93,6 +95,7 @@ pub fn is_due(c: Connection, clock: u64) -> bool
 }
 
 // The earlier of two deadlines.
+// (None is the latest here, and the least by Option's own order)
 #[tactic(auto, unfolding(picks::specs::Pick::pick))]
 pub fn earlier(a: Option<u64>, b: Option<u64>) -> Option<u64>
     ensures { result ≡ earlier a b }

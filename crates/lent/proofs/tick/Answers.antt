@@ -15,4 +15,4 @@ returns-in_err-row c =
 pub returns : goal.returns
 returns c =
     let l = c.in_ok-row.ensures.long in
-    rw c.copy_from_slice.ensures.after (c.tick_at-called.ensures ∙ (rw (c.in_ok-row.ensures.loaded, c.first_due-due.ensures) (tick_at_found _ _ _ _ _ l)))
+    rw c.copy_from_slice.ensures.after (c.tick_at-called.ensures ∙ (rw (c.in_ok-row.ensures.loaded, c.due_place-due.ensures) (tick_at_found _ _ _ _ _ l)))

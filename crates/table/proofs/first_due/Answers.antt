@@ -1,12 +1,11 @@
--- The first record that is due.
+-- The search of any number of records, of eight.
 use Rattle.protocol.specs.ConnectionTable.{is_due, chosen}
-use Rattle.table.proofs.Walk.{place_first}
-use Rattle.std.proofs.lemmas.Iterator.{YieldsList-from_slice}
-use Rattle.std.proofs.lemmas.Iterator.Search.{position_from_yields_List}
+use Rattle.table.proofs.Walk.{told_in}
 use borrow.Author.Rules.{rules}
 use Rattle.table.proofs.first_due.Goals as goal
 
-pub returns-clause-place : goal.returns-clause-place
+pub returns : goal.returns
 unfolding chosen
-returns-clause-place c =
-    place_first _ _ _ (search rules) (position_from_yields_List (is_due c.args.clock) _ _ _ c.position.ensures.ran (YieldsList-from_slice c.args.t c.iter.ensures.rest) (λ x b q k. search rules))
+returns c =
+    let h = told_in (is_due c.args.clock) c.args.t _ (search rules) c.due_place.ensures in
+    record { place = h.0; inside = h.1 }

@@ -1,10 +1,8 @@
--- The client's place is not behind the first unused record.
-use Rattle.table.specs.Row.{seat_place}
-use Rattle.table.proofs.Walk.{told_or}
-use Rattle.table.proofs.Moves.{seat_before, joined_made, joined_full}
+-- The client's place is not behind the first unused record; the records between the two turn up by one, then a store.
+use Rattle.table.specs.Row.{put_in}
+use Rattle.table.proofs.Moves.{seat_told, turned_in, joined_made, joined_full}
 use lib.ListN.{length}
-use mathlib.Core.Path.{◌≡◌, ◌∙◌}
-use Prim.Native.Nat.{◌≤◌}
+use mathlib.Core.Path.{◌≡◌, refl}
 use borrow.Author.Rules.{rules}
 use native.Mathlib.Omega.{arith}
 use Rattle.table.proofs.joined.Goals as goal
@@ -15,18 +13,31 @@ returns-in_default c =
     let l : length a.t ≡ 8 = search rules in
     joined_full a.client a.t (omega (arith, c.in_default.ensures.place))
 
-pub put_in-requires : goal.put_in-requires
-put_in-requires c =
-    let a = c.args in
+pub slice_bounds-rotate_right-count : goal.slice_bounds-rotate_right-count
+slice_bounds-rotate_right-count c =
     let n = c.in-Some.ensures in
-    let h : seat_place a.client a.t ≤ c.in-Some.n = rw n.place (seat_before a.client a.t) in
-    record { at_within = rw (c.unwrap_or-at.ensures, told_or _ _ _ c.seat_place.ensures.place h n.inside) h; n_within = n.inside }
+    let h = seat_told c.args.client c.args.t c.seat_place.result _ _ c.unwrap_or-at.ensures c.seat_place.ensures.place n.place n.inside in
+    omega (arith, h.1)
+
+pub slice_bounds-t-start : goal.slice_bounds-t-start
+slice_bounds-t-start c =
+    let n = c.in-Some.ensures in
+    let h = seat_told c.args.client c.args.t c.seat_place.result _ _ c.unwrap_or-at.ensures c.seat_place.ensures.place n.place n.inside in
+    let k = h.1 in
+    search rules
+
+pub rotate_right-requires : goal.rotate_right-requires
+rotate_right-requires c =
+    let n = c.in-Some.ensures in
+    let h = seat_told c.args.client c.args.t c.seat_place.result _ _ c.unwrap_or-at.ensures c.seat_place.ensures.place n.place n.inside in
+    let l : length c.args.t ≡ 8 = search rules in
+    grind (arith, h.1, n.inside, l)
 
 pub returns : goal.returns
+unfolding put_in
 returns c =
     let a = c.args in
     let n = c.in-Some.ensures in
+    let h = seat_told a.client a.t c.seat_place.result _ _ c.unwrap_or-at.ensures c.seat_place.ensures.place n.place n.inside in
     let l : length a.t ≡ 8 = search rules in
-    let h : seat_place a.client a.t ≤ c.in-Some.n = rw n.place (seat_before a.client a.t) in
-    let at : c.unwrap_or-at.result ≡ seat_place a.client a.t = c.unwrap_or-at.ensures ∙ told_or c.seat_place.result _ _ c.seat_place.ensures.place h n.inside in
-    joined_made a.client a.t _ _ _ _ _ (omega (arith, n.inside)) n.place at c.joining.ensures c.put_in.ensures
+    joined_made a.client a.t _ _ _ _ _ (omega (arith, n.inside)) n.place h.0 c.joining-c.ensures (rw c.rotate_right.ensures.after (turned_in a.t _ _ _ _ h.1 (omega (arith, n.inside)) refl))
