@@ -1,94 +1,17 @@
 // The three calls of the server as C makes them: numbers and lent bytes in and out, the table as the 320 bytes of its records. Crate `export_c` exports them.
 #![tactic(auto)]
 
-ghost use Rattle.std.specs.Prelude.{◌≡◌, true, ◌≤◌, length};
+ghost use Rattle.std.specs.Prelude.{◌≡◌, true};
 ghost use Rattle.picks.specs.Pick.{every};
-ghost use Rattle.octets.specs.Octets.{splice};
-ghost use Rattle.protocol.specs.Constants.{ANSWER_MIN};
-ghost use Rattle.protocol.specs.ConnectionRecord.{told_reply};
-ghost use Rattle.protocol.specs.ConnectionTable.{share_of};
-ghost use Rattle.protocol.specs.Calls.{verdict, accept, frame};
-ghost use Rattle.protocol.specs.Request.{accepted, request_of};
-ghost use Rattle.protocol.specs.Tick.{tick_tests, tick_of};
-ghost use Rattle.format.specs.Format.{client_of, is_client, table_bytes, table_of};
+ghost use Rattle.protocol.specs.Request.{request_of};
+ghost use Rattle.protocol.specs.Tick.{tick_of};
+ghost use Rattle.format.specs.Format.{client_of, is_client, table_of};
 ghost use Rattle.packed.specs.Packed.{is_quiet};
-ghost use Rattle.outcomes.specs.Outcomes.{answers_to, request_answer, tick_answer, row_of};
+ghost use Rattle.outcomes.specs.Outcomes.{request_answer, tick_answer, row_of};
 ghost use Rattle.export.specs.Exported.{left, left_by, request_bytes, tick_bytes, query_bytes};
-ghost use Rattle.seats.specs.Seats.{settled_in};
-ghost use Rattle.export.specs.Admitted.{Admitted};
 
 use outcomes::{SdoAnswer, SdoDeadline};
-use protocol::{Connection, Refusal, SdoClientInfo, SdoResponseData};
-use seats::Seat;
-
-// An answered request: the answer's bytes, and the table after it.
-fn answered<'a>(
-    t: &mut [u8; 320],
-    s: Seat,
-    next: Connection,
-    client: SdoClientInfo,
-    r: SdoResponseData,
-    area: &'a [u8],
-    image: &'a [u8],
-    answer: &mut [u8],
-) -> SdoAnswer
-    requires { ANSWER_MIN ≤ length answer.old }
-    ensures returned { result ≡ answers_to (record { client = client; size = length (frame (told_reply r (share_of area.now s.own.area) image.now)) }) }
-    ensures table_left { t.new ≡ table_bytes (settled_in s.place next (table_of t.old)) }
-    ensures answer_left { answer.new ≡ splice 0 (frame (told_reply r (share_of area.now s.own.area) image.now)) answer.old }
-{
-    let written = server::put_answer(r, area, s.own.area, image, answer);
-    seats::settle(t, s.place, next);
-    outcomes::of_request(server::addressed(client, written))
-}
-
-// A request that passed the tests: the client's record is served and goes to its seat.
-fn accepted(
-    t: &mut [u8; 320],
-    area: &mut [u8],
-    image: &mut [u8],
-    answer: &mut [u8],
-    client: SdoClientInfo,
-    place: Option<usize>,
-    free: Option<usize>,
-    clock: u64,
-    request: &[u8],
-) -> SdoAnswer
-    requires { Admitted client place free clock request.now image.old answer.old (table_of t.old) area.old }
-    ensures { left result t.new area.new image.new answer.new ≡ left_by request_answer t.old (accepted client clock request.now image.old answer.old (table_of t.old) area.old) }
-{
-    let s = seats::seat_of(t, client, place, free);
-    let served = server::serve_record(s.own, area, image, clock, request);
-    let next = served.connection;
-    match served.said {
-        Ok(r) => answered(t, s, next, client, r, area, image, answer),
-        Err(x) => {
-            seats::put_back(t, s.place, next);
-            outcomes::refused(x)
-        }
-    }
-}
-
-// A request on a table that was found sound, with the other tests of what is lent passed.
-fn admitted(
-    t: &mut [u8; 320],
-    area: &mut [u8],
-    image: &mut [u8],
-    answer: &mut [u8],
-    client: SdoClientInfo,
-    clock: u64,
-    request: &[u8],
-) -> SdoAnswer
-    requires { verdict (tick_tests clock image.old answer.old (table_of t.old) area.old) ≡ accept }
-    ensures { left result t.new area.new image.new answer.new ≡ left_by request_answer t.old (request_of client clock request.now image.old answer.old (table_of t.old) area.old) }
-{
-    let place = packed::place_of(t, client);
-    let free = packed::unused_place(t);
-    match refusals::check_frame(request.len(), place.is_none() & free.is_none()) {
-        Ok(()) => accepted(t, area, image, answer, client, place, free, clock, request),
-        Err(x) => outcomes::refused(x),
-    }
-}
+use protocol::Refusal;
 
 // A request on the table's bytes, from the client in its eight bytes.
 fn handle_request(
@@ -105,7 +28,9 @@ fn handle_request(
     let sound = clients::is_client(who) & packed::is_sound(t);
     let client = clients::client_in(who);
     match refusals::check_lent(sound, area, image, answer, clock) {
-        Ok(()) => admitted(t, area, image, answer, client, clock, request),
+        Ok(()) => {
+            outcomes::of_request(server::admitted(t, area, image, answer, client, clock, request))
+        }
         Err(x) => outcomes::refused(x),
     }
 }

@@ -1,3 +1,5 @@
 pub mod Laws
+pub mod Testing
 pub mod Calls
+pub mod Accepting
 pub mod CodeSeries

@@ -1,2 +1,4 @@
+pub mod Admitted
 pub mod Left
+pub mod Tables
 pub mod CodeSeries

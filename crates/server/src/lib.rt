@@ -6,33 +6,21 @@ ghost use Rattle.picks.specs.Pick.{pick};
 ghost use Rattle.protocol.specs.Constants.{SHARE, ANSWER_MIN};
 ghost use Rattle.protocol.specs.Coding.{told_written};
 ghost use Rattle.protocol.specs.ConnectionRecord.{told_handled, told_reply, serve};
-ghost use Rattle.protocol.specs.ConnectionTable.{sound_table, update, share_of, with_share};
+ghost use Rattle.protocol.specs.ConnectionTable.{sound_table, share_of, with_share};
 ghost use Rattle.protocol.specs.Calls.{told_checked, verdict, accept, addressed, answer_written, answer_left};
-ghost use Rattle.protocol.specs.Request.{told_outcome, told_requested, request_tests, accepted, request_of};
+ghost use Rattle.protocol.specs.Request.{told_outcome, told_requested, accepted, request_of};
 ghost use Rattle.protocol.specs.Tick.{told_ticked, told_ticked_row, tick_tests, tick_at, tick_of};
 ghost use Rattle.table.specs.Row.{place_in};
-ghost use Rattle.server.specs.Left.{holds_share, served_on, settled_row, answered_call, told_to, ticked_call, tick_at_of};
+ghost use Rattle.seats.specs.Seats.{settled_in};
+ghost use Rattle.server.specs.Admitted.{Admitted};
+ghost use Rattle.server.specs.Tables.{left_in, made_of, kept_or_made};
+ghost use Rattle.server.specs.Left.{holds_share, served_on, told_to, ticked_call, tick_at_of};
 ghost use Rattle.protocol.specs.DeadlineQuery.{told_next_action, query_of};
 
 use protocol::{
     Answered, BufferTooShort, Called, Connection, Left, Refusal, SdoClientInfo, SdoResponseData,
 };
-
-// All tests of a request, in order.
-fn check_request(
-    t: [Connection; 8],
-    area: &[u8],
-    image: &[u8],
-    answer: &[u8],
-    client: SdoClientInfo,
-    clock: u64,
-    request: &[u8],
-) -> Result<(), Refusal>
-    ensures { told_checked result ≡ verdict (request_tests client clock request.now image.now answer.now t area.now) }
-{
-    refusals::check_lent(table::is_sound(t), area, image, answer, clock)?;
-    refusals::check_frame(request.len(), table::is_full(t, client))
-}
+use seats::{Seat, Table};
 
 // A request on a record, whose own part of the area is lent on.
 fn serve_share(
@@ -97,36 +85,71 @@ pub fn addressed(
     Ok(Answered { client, length })
 }
 
-// The row with the record after an answered request, and without it where that is Closed.
-fn settled(row: [Connection; 8], client: SdoClientInfo, next: Connection) -> [Connection; 8]
-    requires { sound_table (update client next row) ≡ true }
-    ensures { result ≡ settled_row client row next }
-{
-    let t = table::updated(row, client, next);
-    if connection::is_closed(next.state) {
-        return table::dropped(t, client);
-    }
-    t
-}
-
-// An answered request: the answer's bytes, and the row after it.
-fn answered<'a>(
-    row: [Connection; 8],
-    client: SdoClientInfo,
-    number: u8,
+// An answered request: the answer's bytes, and the table after it.
+fn answered<'a, T: Table>(
+    t: &mut T,
+    s: Seat,
     next: Connection,
+    client: SdoClientInfo,
     r: SdoResponseData,
     area: &'a [u8],
     image: &'a [u8],
     answer: &mut [u8],
-) -> Called<Answered>
-    requires { (sound_table (update client next row) ≡ true) × (ANSWER_MIN ≤ length answer.old) }
-    ensures { told_requested result answer.new area.now image.now ≡ answered_call client row next (told_reply r (share_of area.now number) image.now) answer.old area.now image.now }
+) -> Result<Answered, Refusal>
+    ensures returned { told_outcome result ≡ addressed client (answer_written (told_reply r (share_of area.now s.own.area) image.now) answer.old) }
+    ensures table_left { t.new ≡ T.made (settled_in s.place next (T.rows t.old)) }
+    ensures answer_left { answer.new ≡ answer_left (told_reply r (share_of area.now s.own.area) image.now) answer.old }
 {
-    let w = put_answer(r, area, number, image, answer);
-    Called {
-        outcome: addressed(client, w),
-        table: settled(row, client, next),
+    let written = put_answer(r, area, s.own.area, image, answer);
+    seats::settle(t, s.place, next);
+    addressed(client, written)
+}
+
+// A request that passed the tests: the client's record is served and goes to its seat.
+fn accepted<T: Table>(
+    t: &mut T,
+    area: &mut [u8],
+    image: &mut [u8],
+    answer: &mut [u8],
+    client: SdoClientInfo,
+    place: Option<usize>,
+    free: Option<usize>,
+    clock: u64,
+    request: &[u8],
+) -> Result<Answered, Refusal>
+    requires { Admitted client place free clock request.now image.old answer.old (T.rows t.old) area.old }
+    ensures { left_in (told_outcome result) answer.new t.new area.new image.new ≡ made_of T.made (accepted client clock request.now image.old answer.old (T.rows t.old) area.old) }
+{
+    let s = seats::seat_of(t, client, place, free);
+    let served = serve_share(s.own, area, image, clock, request);
+    let next = served.connection;
+    match served.said {
+        Ok(r) => answered(t, s, next, client, r, area, image, answer),
+        Err(x) => {
+            seats::put_back(t, s.place, next);
+            Err(x)
+        }
+    }
+}
+
+// A request on a table that was found sound, with the other tests of what is lent passed. Refusals 1 to 7 leave the table as it was.
+pub fn admitted<T: Table>(
+    t: &mut T,
+    area: &mut [u8],
+    image: &mut [u8],
+    answer: &mut [u8],
+    client: SdoClientInfo,
+    clock: u64,
+    request: &[u8],
+) -> Result<Answered, Refusal>
+    requires { verdict (tick_tests clock image.old answer.old (T.rows t.old) area.old) ≡ accept }
+    ensures { left_in (told_outcome result) answer.new t.new area.new image.new ≡ kept_or_made T.made t.old (request_of client clock request.now image.old answer.old (T.rows t.old) area.old) }
+{
+    let place = t.place_of(client);
+    let free = t.unused_place();
+    match refusals::check_frame(request.len(), place.is_none() & free.is_none()) {
+        Ok(()) => accepted(t, area, image, answer, client, place, free, clock, request),
+        Err(x) => Err(x),
     }
 }
 
@@ -140,32 +163,9 @@ fn refused<T: Copy>(x: Refusal, table: [Connection; 8]) -> Called<T>
     }
 }
 
-// A request that passed the tests: the client's record, joined where it has none, is served and stored.
-fn accepted(
-    t: [Connection; 8],
-    area: &mut [u8],
-    image: &mut [u8],
-    answer: &mut [u8],
-    client: SdoClientInfo,
-    clock: u64,
-    request: &[u8],
-) -> Called<Answered>
-    requires { verdict (request_tests client clock request.now image.old answer.old t area.old) ≡ accept }
-    ensures { told_requested result answer.new area.new image.new ≡ accepted client clock request.now image.old answer.old t area.old }
-{
-    let row = table::seated(t, client);
-    let c = table::record_of(row, client);
-    let served = serve_share(c, area, image, clock, request);
-    let next = served.connection;
-    match served.said {
-        Ok(r) => answered(row, client, c.area, next, r, area, image, answer),
-        Err(x) => refused(x, table::updated(row, client, next)),
-    }
-}
-
 // A request from a client. A refusal leaves what its row of document 01's table says.
 pub fn handle_request(
-    t: [Connection; 8],
+    mut t: [Connection; 8],
     area: &mut [u8],
     image: &mut [u8],
     answer: &mut [u8],
@@ -175,8 +175,11 @@ pub fn handle_request(
 ) -> Called<Answered>
     ensures { told_requested result answer.new area.new image.new ≡ request_of client clock request.now image.old answer.old t area.old }
 {
-    match check_request(t, area, image, answer, client, clock, request) {
-        Ok(()) => accepted(t, area, image, answer, client, clock, request),
+    match refusals::check_lent(table::is_sound(t), area, image, answer, clock) {
+        Ok(()) => {
+            let outcome = admitted(&mut t, area, image, answer, client, clock, request);
+            Called { outcome, table: t }
+        }
         Err(x) => refused(x, t),
     }
 }
