@@ -37,8 +37,7 @@ use Rattle.format.proofs.RoundTrip.{table_back, table_is}
 use Rattle.outcomes.specs.Outcomes.{only, answers_to, request_answer, tick_answer, no_table, row_of, table_left}
 use Rattle.export.specs.Exported.{Left, left_by, request_bytes, tick_bytes}
 use Rattle.export.specs.BytesSeries.{Turn, requested, ticked, queried, Kept, start_bytes, Contract, LentBytes, next_of, Ran, sent_as, sent_by, sent_all}
-use Rattle.export.proofs.Accepting.{late_left}
-use Rattle.export.proofs.Refusals.{no_table_number, request_no_table}
+use Rattle.export.proofs.Refusals.{late_left, no_table_number, request_no_table}
 use Rattle.export.proofs.ReadBack.{NamedClient, client_named, all_at, all_fresh, row_fits, Written, request_written, tick_written}
 
 -- the call that a turn stands for: a request whose number is no client is refused and leaves all, as a query does

@@ -1,4 +1,3 @@
-pub mod Accepting
 pub mod Testing
 pub mod Quiet
 pub mod Through

@@ -25,7 +25,8 @@ use Rattle.protocol.specs.ConnectionTable.{Ticking, idle, ticks}
 use Rattle.protocol.specs.DeadlineQuery.{query_tests, query_of}
 use Rattle.protocol.proofs.Requests.{accepted_by}
 use Rattle.protocol.proofs.StaysSound.{accepted_numbers}
-use Rattle.format.specs.Format.{client_of, is_client, is_table}
+use Rattle.server.proofs.Accepting.{late_kept}
+use Rattle.format.specs.Format.{client_of, is_client, is_table, table_bytes}
 use Rattle.outcomes.specs.Outcomes.{only, request_answer, tick_answer, query_answer, no_table, row_of, table_left}
 use Rattle.export.specs.Exported.{Left, left, left_by, request_bytes, tick_bytes, query_bytes}
 
@@ -49,6 +50,11 @@ LeavesAll table area image answer x = 0 < x.returned.outcome → x.returned.outc
 left_by_number : (n : ℕ) (row : List Connection) (table : List ℕ) → 0 < n → n < 8 → table_left n row table ≡ table
 unfolding table_left
 left_by_number n row table a b = sym (pick_t _ _ _ _ (both (lt-ltb 0 n a) (lt-ltb n 8 b)) refl)
+
+-- a late refusal and an answer leave the bytes of the records
+pub late_left : (n : ℕ) (row : List Connection) (bytes : List ℕ) → 7 < n → table_bytes row ≡ table_left n row bytes
+unfolding table_left
+late_left n row bytes h = sym (late_kept n bytes (table_bytes row) h)
 
 module _ (client : SdoClientInfo) (clock : ℕ) (request image answer : List ℕ) (row : List Connection) (table area : List ℕ) where
   answered_or_late : (x : Called To) → ((n : ℕ) → x.returned ≡ refused n → 7 < n) → LeavesAll table area image answer (left_by request_answer table x)

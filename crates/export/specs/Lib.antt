@@ -1,3 +1,2 @@
 pub mod Exported
 pub mod BytesSeries
-pub mod Admitted

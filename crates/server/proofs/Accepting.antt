@@ -42,10 +42,13 @@ both_not : (a : Bool) {b : Bool} → b ≡ false → (a && b) ≡ false
 both_not true e = e
 both_not false e = refl
 
+pub late_kept : {T : Type 0} (n : ℕ) (old new : T) → 7 < n → pick (ltb 0 n && ltb n 8) old new ≡ new
+late_kept n old new late = sym (pick_f _ _ _ _ (both_not (ltb 0 n) (le-ltb n 8 (omega arith))) refl)
+
 late_made : {T : Type 0} (a : Answer To) (old new : T) → ((n : ℕ) → a ≡ refused n → 7 < n) → pick (ltb 0 (number_of a) && ltb (number_of a) 8) old new ≡ new
 unfolding pick
 late_made (value x) old new late = refl
-late_made (refused n) old new late = sym (pick_f _ _ _ _ (both_not (ltb 0 n) (le-ltb n 8 (let l = late n refl in omega arith))) refl)
+late_made (refused n) old new late = late_kept n old new (late n refl)
 
 module _ {T : Type 0} (made : List Connection → T) (old : T) (client : SdoClientInfo) (clock : ℕ) (request image answer : List ℕ) (row : List Connection) (area : List ℕ) where
   abbrev tests : Verdict
@@ -62,12 +65,12 @@ module _ {T : Type 0} (made : List Connection → T) (old : T) (client : SdoClie
       ap (λ b. left_in (refused (refusal_number x)) answer b area image) (pick_t _ _ _ _ k refl) ∙ ap (λ w. kept_or_made made old (on w)) v
 
   -- and one that passed them
-  pub accepted_made : accept ≡ tests → made_of made (accepted client clock request image answer row area) ≡ kept_or_made made old (request_of client clock request image answer row area)
+  pub accepted_made : (l : LeftIn T) → l ≡ made_of made (accepted client clock request image answer row area) → accept ≡ tests → l ≡ kept_or_made made old (request_of client clock request image answer row area)
   unfolding request_of on_verdict
-  accepted_made v =
+  accepted_made l e v =
       let c = accepted client clock request image answer row area in
-      let late = λ (n : ℕ) (e : c.returned ≡ refused n). (accepted_numbers client clock request image answer row area (accepted_by client clock request image answer row area (sym v)) n e).0 in
-      ap (λ b. left_in c.returned c.answer b c.area c.image) (sym (late_made c.returned old (made c.table) late)) ∙ ap (λ w. kept_or_made made old (on w)) v
+      let late = λ (n : ℕ) (f : c.returned ≡ refused n). (accepted_numbers client clock request image answer row area (accepted_by client clock request image answer row area (sym v)) n f).0 in
+      e ∙ ap (λ b. left_in c.returned c.answer b c.area c.image) (sym (late_made c.returned old (made c.table) late)) ∙ ap (λ w. kept_or_made made old (on w)) v
 
 -- a table that is the row itself
 module _ (client : SdoClientInfo) (clock : ℕ) (request image answer : List ℕ) (row : List Connection) (area : List ℕ) where

@@ -30,4 +30,4 @@ returns-in-Ok g c =
     let a = c.args in
     let row = g.T.Table.rows a.t.now in
     let long = (tick_accepted_by a.clock a.image.now a.answer.now row a.area.now c.requires).eight in
-    c.accepted.ensures ∙ accepted_made g.T.Table.made a.t.now a.client a.clock a.request.now a.image.now a.answer.now row a.area.now (ap told_checked (sym c.in-Ok.is) ∙ c.check_frame.ensures ∙ frame_verdict a.clock a.image.now a.answer.now row a.area.now long c.requires a.client a.request.now _ (full_is a.client row _ _ _ _ long c.place_of-place.ensures.place c.place_of-place.ensures.inside c.unused_place-free.ensures.place c.unused_place-free.ensures.inside c.is_none.ensures c.is_none-2.ensures))
+    accepted_made g.T.Table.made a.t.now a.client a.clock a.request.now a.image.now a.answer.now row a.area.now _ c.accepted.ensures (ap told_checked (sym c.in-Ok.is) ∙ c.check_frame.ensures ∙ frame_verdict a.clock a.image.now a.answer.now row a.area.now long c.requires a.client a.request.now _ (full_is a.client row _ _ _ _ long c.place_of-place.ensures.place c.place_of-place.ensures.inside c.unused_place-free.ensures.place c.unused_place-free.ensures.inside c.is_none.ensures c.is_none-2.ensures))
