@@ -12,20 +12,22 @@ use Rattle.protocol.specs.declared.Connection.{Connection}
 use Rattle.protocol.specs.declared.Answered.{Answered}
 use Rattle.protocol.specs.declared.Called.{Called}
 use Rattle.std.specs.Prelude.{Option, Ok}
-use Rattle.protocol.specs.Coding.{refused}
+use Rattle.protocol.specs.Coding.{Answer, refused}
 use Rattle.protocol.specs.ConnectionTable.{sound_table, earliest}
 use Rattle.protocol.specs.DeadlineQuery.{told_next_action, query_of}
 use Rattle.server.proofs.Calls.{query_sound, query_unsound}
+use Rattle.protocol.specs.Calls.{To}
 use Rattle.protocol.specs.Request.{request_of}
 use Rattle.protocol.specs.Tick.{told_ticked, told_ticked_row, tick_of}
-use Rattle.format.specs.Format.{client_bytes, client_of, is_client, table_of, is_table}
+use Rattle.format.specs.Format.{client_bytes, client_of, is_client, table_bytes, table_of, is_table}
 use Rattle.format.proofs.Writing.{length_client, splice_whole}
 use Rattle.format.proofs.RoundTrip.{client_back}
 use Rattle.format.proofs.Ranges.{client_fits, bytes_client, length_table_of}
 use Rattle.outcomes.specs.declared.SdoAnswer.{SdoAnswer}
 use Rattle.outcomes.specs.Outcomes.{request_answer, tick_answer, query_answer, row_of, table_left}
 use Rattle.export.specs.Exported.{left, left_by, request_bytes, tick_bytes, query_bytes}
-use Rattle.export.proofs.Testing.{eight_row, sound_row, row_is}
+use Rattle.server.specs.Tables.{left_in, kept_or_made}
+use Rattle.export.proofs.Testing.{left_of, kept_is, eight_row, sound_row, row_is}
 
 -- a client's number laid as its eight bytes
 pub client_laid : (client : ℕ) → splice 0 (le_bytes 8 client) (replicate 8 0) ≡ le_bytes 8 client
@@ -37,19 +39,19 @@ client_number_back s b =
     let k = client_of s in
     rw (le_bytes_le 8 (client_bytes k) (length_client k) (bytes_client s b), ← append-nil (client_bytes k)) (client_back k [] (client_fits s b))
 
--- a request on a copy of the table's bytes
-pub request_through_lem : (client clock : ℕ) (request image answer table area who t t' table' area' image' answer' : List ℕ) (told : SdoAnswer) → length table ≡ 320 → who ≡ le_bytes 8 client → t ≡ table → left told t' area' image' answer' ≡ left_by request_answer t (request_of (client_of who) clock request image answer (row_of (is_client who) t) area) → table' ≡ t' → left told table' area' image' answer' ≡ request_bytes client clock request image answer table area
+-- a request on the table's bytes
+pub request_through_lem : (client clock : ℕ) (request image answer table area who t t' area' image' answer' : List ℕ) (told : SdoAnswer) (r : Answer To) → length table ≡ 320 → who ≡ le_bytes 8 client → t ≡ table → told ≡ request_answer r → left_in r answer' t' area' image' ≡ kept_or_made table_bytes t (request_of (client_of who) clock request image answer (row_of (is_client who) t) area) → left told t' area' image' answer' ≡ request_bytes client clock request image answer table area
 unfolding request_bytes
-request_through_lem client clock request image answer table area who t t' table' area' image' answer' told long ew et e el =
+request_through_lem client clock request image answer table area who t t' area' image' answer' told r long ew et eo e =
     let f : left_by request_answer t (request_of (client_of who) clock request image answer (row_of (is_client who) t) area) ≡ left_by request_answer table (request_of (client_of (le_bytes 8 client)) clock request image answer (row_of (is_client (le_bytes 8 client)) table) area) = rw (et, ew) in
-    pick_t _ _ _ _ (eq-eqb _ _ long) (ap (λ b. left told b area' image' answer') el ∙ e ∙ f)
+    pick_t _ _ _ _ (eq-eqb _ _ long) (ap (λ x. left x t' area' image' answer') eo ∙ ap left_of e ∙ kept_is t (request_of (client_of who) clock request image answer (row_of (is_client who) t) area) ∙ f)
 
--- a tick on a copy of the table's bytes, and on the row of the bytes
-pub tick_through_lem : (clock : ℕ) (image answer table area t t' table' answer' : List ℕ) (told : SdoAnswer) → length table ≡ 320 → t ≡ table → left told t' area image answer' ≡ left_by tick_answer t (tick_of clock image answer (row_of true t) area) → table' ≡ t' → left told table' area image answer' ≡ tick_bytes clock image answer table area
+-- a tick on the table's bytes, and on the row of the bytes
+pub tick_through_lem : (clock : ℕ) (image answer table area t t' answer' : List ℕ) (told : SdoAnswer) → length table ≡ 320 → t ≡ table → left told t' area image answer' ≡ left_by tick_answer t (tick_of clock image answer (row_of true t) area) → left told t' area image answer' ≡ tick_bytes clock image answer table area
 unfolding tick_bytes
-tick_through_lem clock image answer table area t t' table' answer' told long et e el =
+tick_through_lem clock image answer table area t t' answer' told long et e =
     let f : left_by tick_answer t (tick_of clock image answer (row_of true t) area) ≡ left_by tick_answer table (tick_of clock image answer (row_of true table) area) = rw et in
-    pick_t _ _ _ _ (eq-eqb _ _ long) (ap (λ b. left told b area image answer') el ∙ e ∙ f)
+    pick_t _ _ _ _ (eq-eqb _ _ long) (e ∙ f)
 
 pub tick_by_row : (clock : ℕ) (image answer t area : List ℕ) (row : List Connection) (done : Called (Option Answered)) (told : SdoAnswer) (t' answer' : List ℕ) → row ≡ row_of true t → told_ticked_row done answer' area image ≡ tick_of clock image answer row area → told ≡ tick_answer (told_ticked done.outcome) → t' ≡ table_left told.outcome done.table t → left told t' area image answer' ≡ left_by tick_answer t (tick_of clock image answer (row_of true t) area)
 tick_by_row clock image answer t area row done told t' answer' er e et el =
@@ -57,7 +59,7 @@ tick_by_row clock image answer t area row done told t' answer' er e et el =
     let g : left told t' area image answer' ≡ left_by tick_answer t (told_ticked_row done answer' area image) = rw (el, et) in
     g ∙ ap (left_by tick_answer t) (e ∙ f)
 
--- the deadline query on a copy of the table's bytes
+-- the deadline query on the table's bytes
 pub query_sound_bytes : (table t : List ℕ) (d : Option ℕ) → length table ≡ 320 → t ≡ table → d ≡ earliest (table_of t) → (is_table t && sound_table (table_of t)) ≡ true → query_answer (told_next_action (Ok d)) ≡ query_bytes table
 unfolding query_bytes
 query_sound_bytes table t d long et ed s =

@@ -3,15 +3,17 @@
 
 ghost use Rattle.std.specs.Prelude.{◌≡◌, true};
 ghost use Rattle.picks.specs.Pick.{every};
-ghost use Rattle.protocol.specs.Request.{request_of};
-ghost use Rattle.protocol.specs.Tick.{tick_of};
-ghost use Rattle.format.specs.Format.{client_of, is_client, table_of};
+ghost use Rattle.protocol.specs.Request.{told_outcome, request_of};
+ghost use Rattle.protocol.specs.Tick.{told_ticked, tick_of};
+ghost use Rattle.protocol.specs.DeadlineQuery.{told_next_action};
+ghost use Rattle.server.specs.Tables.{left_in, kept_or_made};
+ghost use Rattle.format.specs.Format.{client_of, is_client, table_bytes, table_of};
 ghost use Rattle.packed.specs.Packed.{is_quiet};
-ghost use Rattle.outcomes.specs.Outcomes.{request_answer, tick_answer, row_of};
+ghost use Rattle.outcomes.specs.Outcomes.{tick_answer, query_answer, row_of};
 ghost use Rattle.export.specs.Exported.{left, left_by, request_bytes, tick_bytes, query_bytes};
 
 use outcomes::{SdoAnswer, SdoDeadline};
-use protocol::Refusal;
+use protocol::{Answered, Refusal};
 
 // A request on the table's bytes, from the client in its eight bytes.
 fn handle_request(
@@ -22,20 +24,16 @@ fn handle_request(
     who: &[u8; 8],
     clock: u64,
     request: &[u8],
-) -> SdoAnswer
-    ensures { left result t.new area.new image.new answer.new ≡ left_by request_answer t.old (request_of (client_of who.now) clock request.now image.old answer.old (row_of (is_client who.now) t.old) area.old) }
+) -> Result<Answered, Refusal>
+    ensures { left_in (told_outcome result) answer.new t.new area.new image.new ≡ kept_or_made table_bytes t.old (request_of (client_of who.now) clock request.now image.old answer.old (row_of (is_client who.now) t.old) area.old) }
 {
     let sound = clients::is_client(who) & packed::is_sound(t);
     let client = clients::client_in(who);
-    match refusals::check_lent(sound, area, image, answer, clock) {
-        Ok(()) => {
-            outcomes::of_request(server::admitted(t, area, image, answer, client, clock, request))
-        }
-        Err(x) => outcomes::refused(x),
-    }
+    refusals::check_lent(sound, area, image, answer, clock)?;
+    server::admitted(t, area, image, answer, client, clock, request)
 }
 
-// A request from a client.
+// A request from a client. A table of another length than 320 is refused as what is lent.
 pub fn sdo_handle_request(
     table: &mut [u8],
     area: &mut [u8],
@@ -47,14 +45,11 @@ pub fn sdo_handle_request(
 ) -> SdoAnswer
     ensures { left result table.new area.new image.new answer.new ≡ request_bytes client clock request.now image.old answer.old table.old area.old }
 {
-    let Some(bytes) = table.as_array() else {
-        return outcomes::only(1);
+    let Some(t) = table.as_mut_array() else {
+        return outcomes::refused(Refusal::Lent);
     };
-    let mut t = *bytes;
     let who = client.to_le_bytes();
-    let told = handle_request(&mut t, area, image, answer, &who, clock, request);
-    table.copy_from_slice(&t);
-    told
+    outcomes::of_request(handle_request(t, area, image, answer, &who, clock, request))
 }
 
 // A tick that finds nobody due and no Closed record: it makes its tests and leaves the records as they are.
@@ -64,18 +59,13 @@ fn quiet_tick<'a>(
     image: &'a [u8],
     answer: &'a [u8],
     clock: u64,
-) -> SdoAnswer
+) -> Result<Option<Answered>, Refusal>
     requires { every (is_quiet clock) (table_of t.old) ≡ true }
-    ensures { left result t.new area.now image.now answer.now ≡ left_by tick_answer t.old (tick_of clock image.now answer.now (row_of true t.old) area.now) }
+    ensures { left (tick_answer (told_ticked result)) t.new area.now image.now answer.now ≡ left_by tick_answer t.old (tick_of clock image.now answer.now (row_of true t.old) area.now) }
 {
-    let sound = packed::is_sound(t);
-    match refusals::check_lent(sound, area, image, answer, clock) {
-        Ok(()) => {
-            packing::tidy(t);
-            outcomes::only(255)
-        }
-        Err(x) => outcomes::refused(x),
-    }
+    refusals::check_lent(packed::is_sound(t), area, image, answer, clock)?;
+    packing::tidy(t);
+    Ok(None)
 }
 
 // A tick on the table's bytes.
@@ -89,7 +79,7 @@ fn tick<'a>(
     ensures { left result t.new area.now image.now answer.new ≡ left_by tick_answer t.old (tick_of clock image.now answer.old (row_of true t.old) area.now) }
 {
     if packed::is_quiet(t, clock) {
-        return quiet_tick(t, area, image, answer, clock);
+        return outcomes::of_tick(quiet_tick(t, area, image, answer, clock));
     }
     let done = server::tick(outcomes::row_of(t), area, image, answer, clock);
     let told = outcomes::of_tick(done.outcome);
@@ -107,25 +97,28 @@ pub fn sdo_tick<'a>(
 ) -> SdoAnswer
     ensures { left result table.new area.now image.now answer.new ≡ tick_bytes clock image.now answer.old table.old area.now }
 {
-    let Some(bytes) = table.as_array() else {
-        return outcomes::only(1);
+    let Some(t) = table.as_mut_array() else {
+        return outcomes::refused(Refusal::Lent);
     };
-    let mut t = *bytes;
-    let told = tick(&mut t, area, image, answer, clock);
-    table.copy_from_slice(&t);
-    told
+    tick(t, area, image, answer, clock)
+}
+
+// The earliest deadline on the table's bytes.
+fn next_action_time(table: &[u8]) -> Result<Option<u64>, Refusal>
+    ensures { query_answer (told_next_action result) ≡ query_bytes table.now }
+{
+    let Some(t) = table.as_array() else {
+        return Err(Refusal::Lent);
+    };
+    if !packed::is_sound(t) {
+        return Err(Refusal::Table);
+    }
+    Ok(packed::next_deadline(t))
 }
 
 // The earliest deadline.
 pub fn sdo_next_action_time(table: &[u8]) -> SdoDeadline
     ensures { result ≡ query_bytes table.now }
 {
-    let Some(t) = table.as_array() else {
-        return SdoDeadline { outcome: 1, at: 0 };
-    };
-    if packed::is_sound(t) {
-        outcomes::of_query(Ok(packed::next_deadline(t)))
-    } else {
-        outcomes::of_query(Err(Refusal::Table))
-    }
+    outcomes::of_query(next_action_time(table))
 }

@@ -1,4 +1,4 @@
--- Refused by the length, or the call on a copy of the bytes.
+-- Refused by the length, or the call on the bytes.
 use Rattle.export.specs.Exported.{request_bytes}
 use Rattle.export.proofs.Through.{request_through_lem}
 use Rattle.octets.proofs.Little.{low_bytes}
@@ -9,9 +9,9 @@ use Rattle.export.proofs.sdo_handle_request.Goals as goal
 
 pub returns-in_default : goal.returns-in_default
 unfolding request_bytes
-returns-in_default c = pick_f _ _ _ _ (ne_eqb _ _ c.in_default.ensures.cases) (rw c.only.ensures)
+returns-in_default c = pick_f _ _ _ _ (ne_eqb _ _ c.in_default.ensures.cases) (rw c.refused.ensures)
 
 pub returns : goal.returns
 returns c =
     let lent = c.in-Some.ensures.cases in
-    request_through_lem _ _ _ _ _ _ _ _ _ _ _ _ _ _ _ lent.long (c.to_le_bytes-who.ensures ∙ low_bytes 8 c.args.client) lent.same c.handle_request-told.ensures c.copy_from_slice.ensures.after
+    request_through_lem _ _ _ _ _ _ _ _ _ _ _ _ _ _ _ lent.long (c.to_le_bytes-who.ensures ∙ low_bytes 8 c.args.client) lent.same c.of_request.ensures c.handle_request.ensures

@@ -1,13 +1,17 @@
 -- Nothing to do, or the tick on the row.
 use Rattle.export.proofs.Through.{tick_by_row}
+use Rattle.export.specs.Exported.{left}
 use Rattle.picks.proofs.Picks.{flag}
+use mathlib.Core.Path.{ap, ◌∙◌}
 use Rattle.export.proofs.tick.Goals as goal
 
 pub quiet_tick-requires : goal.quiet_tick-requires
 quiet_tick-requires c = flag c.is_quiet.ensures c.if-is_quiet.true
 
 pub returns-then-is_quiet : goal.returns-then-is_quiet
-returns-then-is_quiet c = c.quiet_tick.ensures
+returns-then-is_quiet c =
+    let a = c.args in
+    ap (λ r. left r c.quiet_tick.new.t a.area.now a.image.now a.answer.now) c.of_tick.ensures ∙ c.quiet_tick.ensures
 
 pub returns : goal.returns
 returns c =
