@@ -1,10 +1,13 @@
-// Bytes in hex for those who read them, a text laid on a lent page, and the parts of a text.
+// Bytes in hex for those who read them, texts laid on a lent page, and the parts of a text.
 #![tactic(auto)]
 
 ghost use Rattle.std.specs.Prelude.{◌≡◌, ◌≤◌, length, eqb, Some};
 ghost use Rattle.picks.specs.Pick.{first};
-ghost use Rattle.show.specs.Text.{page_at, laid, bytes_text, start_text, until_mark, behind_mark, line_of};
+ghost use Rattle.show.specs.Text.{bytes_text, start_text, until_mark, behind_mark, line_of};
 
+mod page;
+
+pub use page::{digit, put, put_bytes, put_hex, put_line, put_number, put_start};
 use std::fmt;
 
 // Bytes in hex, with a blank before each.
@@ -40,15 +43,6 @@ impl fmt::Display for Start<'_> {
         }
         write!(f, "{}", Bytes(self.bytes))
     }
-}
-
-// A text goes to a page from a place on, as far as the page goes; answers the place behind it.
-pub fn put(page: &mut [u8], at: usize, text: &[u8]) -> usize
-    ensures { page_at result page.new ≡ laid (page_at at page.old) text.now }
-{
-    let n = text.len().min(page.len().saturating_sub(at));
-    octets::copy_at(page, at, text);
-    at + n
 }
 
 // Where a mark first stands in a text: its length where it does not.

@@ -2,7 +2,7 @@
 use native.Mathlib.Omega.{arith}
 use Rattle.show.specs.Text.{laid}
 use Rattle.show.proofs.Laid.{page_path}
-use Rattle.show.proofs.put.Goals as goal
+use Rattle.show.proofs.page.put.Goals as goal
 
 pub returns : goal.returns
 unfolding laid
