@@ -50,6 +50,10 @@ laid_laid p a b =
     page_path (rw (length_splice p.at a p.bytes, length-append a b) (place p.at (length p.bytes) (length a) (length b)))
     (stored p.at a b p.bytes)
 
+-- the same, as one step after another
+pub then : {q r : Page} (p : Page) (a b : List ℕ) → q ≡ laid p a → r ≡ laid q b → r ≡ laid p (a ++ b)
+then p a b e f = f ∙ rw e (laid_laid p a b)
+
 -- a page read up to its place, after a text was laid at its start: the text, where it fits
 pub laid_read : (xs text : List ℕ) → length text ≤ length xs → take (laid (page_at 0 xs) text).at (laid (page_at 0 xs) text).bytes ≡ text
 unfolding laid

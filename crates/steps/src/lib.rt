@@ -6,6 +6,10 @@ ghost use Rattle.protocol.specs.Command.{id_byte};
 ghost use Rattle.reading.specs.Frame.{size_in};
 ghost use Rattle.steps.specs.Steps.{empty_text, named_text, amount_of, written_text, write_text, looked_text, own_abort_text, opening_text, acted_text, asked_text, request_text, range_text, piece_text, whole_text, taken_text, taken_by, other_text, aborted_text, answer_text};
 
+mod page;
+
+pub use page::{put_answer, put_request};
+
 use protocol::{
     CommandId, ReceiveConnState, SdoCommand, Segmentation, SendConnState, SequenceLayerHeader,
 };
