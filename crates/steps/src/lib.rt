@@ -2,14 +2,14 @@
 #![tactic(auto)]
 
 ghost use Rattle.std.specs.Prelude.{◌≡◌, Some};
-ghost use Rattle.protocol.specs.Command.{id_byte};
+ghost use Rattle.protocol.specs.Command.{id_byte, segmentation_number};
 ghost use Rattle.reading.specs.Frame.{size_in};
-ghost use Rattle.steps.specs.Steps.{empty_text, named_text, amount_of, written_text, write_text, looked_text, own_abort_text, opening_text, acted_text, asked_text, request_text, range_text, piece_text, whole_text, taken_text, taken_by, other_text, aborted_text, answer_text};
+ghost use Rattle.show.specs.Text.{entry};
+ghost use Rattle.steps.specs.Steps.{empty_text, named_text, amount_of, written_text, writes, write_text, looked_text, own_abort_text, opening_text, acted_text, asked_text, request_text, range_text, piece_text, whole_text, taken_text, taken_by, other_text, aborted_text, answer_text};
 
 mod page;
 
 pub use page::{put_answer, put_request};
-
 use protocol::{
     CommandId, ReceiveConnState, SdoCommand, Segmentation, SendConnState, SequenceLayerHeader,
 };
@@ -82,6 +82,19 @@ impl fmt::Display for Written<'_> {
     }
 }
 
+// The words of a write, by its segmentation.
+#[tactic(auto, unfolding(show::specs::Text::letters, show::specs::Text::entry))]
+fn words_of(segmentation: Segmentation) -> &'static str
+    ensures { result.now ≡ entry (segmentation_number segmentation) writes }
+{
+    match segmentation {
+        Segmentation::Expedited => "writes ",
+        Segmentation::Initiate => "begins to write ",
+        Segmentation::Segment => "writes the next bytes",
+        Segmentation::Complete => "writes the last bytes",
+    }
+}
+
 // A write.
 #[derive(Clone, Copy)]
 struct Write<'a>(Sent<'a>);
@@ -90,11 +103,13 @@ impl fmt::Display for Write<'_> {
     ghost output = { λ x. Some (write_text x.0.command x.0.payload.now) };
 
     fn fmt<W: fmt::Write>(&self, f: &mut fmt::Formatter<W>) -> fmt::Result {
-        match self.0.command.header.segmentation {
-            Segmentation::Expedited => write!(f, "writes {}", Written(self.0)),
-            Segmentation::Initiate => write!(f, "begins to write {}", Written(self.0)),
-            Segmentation::Segment => f.write_str("writes the next bytes"),
-            Segmentation::Complete => f.write_str("writes the last bytes"),
+        let segmentation = self.0.command.header.segmentation;
+        let words = words_of(segmentation);
+        match segmentation {
+            Segmentation::Expedited | Segmentation::Initiate => {
+                write!(f, "{words}{}", Written(self.0))
+            }
+            Segmentation::Segment | Segmentation::Complete => f.write_str(words),
         }
     }
 }

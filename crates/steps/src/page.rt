@@ -3,7 +3,7 @@ ghost use Rattle.std.specs.Prelude.{◌≡◌};
 ghost use Rattle.show.specs.Text.{page_at, laid};
 ghost use Rattle.steps.specs.Steps.{named_text, written_text, write_text, looked_text, own_abort_text, acted_text, asked_text, request_text, range_text, piece_text, whole_text, aborted_text, answer_text};
 
-use crate::{Acted, Sent, amount, empty_step, opening, other};
+use crate::{Acted, Sent, amount, empty_step, opening, other, words_of};
 use protocol::{CommandId, ReceiveConnState, Segmentation};
 use reading::frame::Frame;
 use reading::{Piece, Reading, frame};
@@ -23,7 +23,7 @@ fn put_named(page: &mut [u8], at: usize, payload: &[u8]) -> usize
 // How many bytes a write has, and its object.
 #[tactic(auto, unfolding(show::specs::Text::letters, crate::specs::Steps::written_text), using(show::proofs::Laid::laid_laid))]
 fn put_written(page: &mut [u8], at: usize, s: Sent<'_>) -> usize
-    ensures { page_at result page.new ≡ laid (page_at at page.old) (written_text s.command s.payload.now) }
+    ensures { page_at result page.new ≡ laid (page_at at page.old) (written_text s.entry.command s.entry.payload.now) }
 {
     let at = show::put_number(page, at, amount(s.command));
     let at = show::put(page, at, b" bytes to ");
@@ -31,28 +31,21 @@ fn put_written(page: &mut [u8], at: usize, s: Sent<'_>) -> usize
 }
 
 // A write.
-#[tactic(auto, unfolding(show::specs::Text::letters, show::specs::Text::entry, picks::specs::Pick::pick, crate::specs::Steps::write_text), using(show::proofs::Laid::laid_laid))]
 fn put_write(page: &mut [u8], at: usize, s: Sent<'_>) -> usize
-    ensures { page_at result page.new ≡ laid (page_at at page.old) (write_text s.command s.payload.now) }
+    ensures { page_at result page.new ≡ laid (page_at at page.old) (write_text s.entry.command s.entry.payload.now) }
 {
-    match s.command.header.segmentation {
-        Segmentation::Expedited => {
-            let at = show::put(page, at, b"writes ");
-            put_written(page, at, s)
-        }
-        Segmentation::Initiate => {
-            let at = show::put(page, at, b"begins to write ");
-            put_written(page, at, s)
-        }
-        Segmentation::Segment => show::put(page, at, b"writes the next bytes"),
-        Segmentation::Complete => show::put(page, at, b"writes the last bytes"),
+    let segmentation = s.command.header.segmentation;
+    let at = show::put(page, at, words_of(segmentation).as_bytes());
+    match segmentation {
+        Segmentation::Expedited | Segmentation::Initiate => put_written(page, at, s),
+        Segmentation::Segment | Segmentation::Complete => at,
     }
 }
 
 // A command that the controller looks at.
 #[tactic(auto, unfolding(show::specs::Text::letters, picks::specs::Pick::pick, crate::specs::Steps::looked_text, crate::specs::Steps::read_text), using(show::proofs::Laid::laid_laid))]
 fn put_looked(page: &mut [u8], at: usize, s: Sent<'_>) -> usize
-    ensures { page_at result page.new ≡ laid (page_at at page.old) (looked_text s.command s.payload.now) }
+    ensures { page_at result page.new ≡ laid (page_at at page.old) (looked_text s.entry.command s.entry.payload.now) }
 {
     match s.command.header.id {
         CommandId::Nil => show::put(page, at, b"an empty command (Nil)"),
@@ -81,7 +74,7 @@ fn put_own_abort(page: &mut [u8], at: usize, payload: &[u8]) -> usize
 // A command behind a header: what it asks, or that it is the client's own abort.
 #[tactic(auto, unfolding(picks::specs::Pick::pick, crate::specs::Steps::acted_text), using(show::proofs::Laid::laid_laid))]
 fn put_acted(page: &mut [u8], at: usize, a: Acted<'_>) -> usize
-    ensures { page_at result page.new ≡ laid (page_at at page.old) (acted_text a.header a.sent.command a.sent.payload.now) }
+    ensures { page_at result page.new ≡ laid (page_at at page.old) (acted_text a.entry.header a.entry.sent.command a.entry.sent.payload.now) }
 {
     let at = show::put(page, at, opening(a.header).as_bytes());
     if a.sent.command.header.aborted {
@@ -93,7 +86,7 @@ fn put_acted(page: &mut [u8], at: usize, a: Acted<'_>) -> usize
 // A frame with a command.
 #[tactic(auto, unfolding(show::specs::Text::letters, picks::specs::Pick::pick, crate::specs::Steps::asked_text))]
 fn put_asked(page: &mut [u8], at: usize, a: Acted<'_>) -> usize
-    ensures { page_at result page.new ≡ laid (page_at at page.old) (asked_text a.header a.sent.command a.sent.payload.now) }
+    ensures { page_at result page.new ≡ laid (page_at at page.old) (asked_text a.entry.header a.entry.sent.command a.entry.sent.payload.now) }
 {
     if a.header.rcon == ReceiveConnState::ErrorResponse {
         let again = b"asks for the last piece again (error response); the command is not looked at";
