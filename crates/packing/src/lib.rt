@@ -14,11 +14,7 @@ use protocol::Connection;
 fn plain_client(r: &[u8; 40]) -> bool
     ensures { result ≡ true → SameClient r.now }
 {
-    if r[1] == 0 {
-        true
-    } else {
-        (r[1] == 1) & (r[8] == 0)
-    }
+    r[1] == 0 || (r[1] == 1 && r[8] == 0)
 }
 
 // Whether the bytes behind the state are 0.
@@ -38,11 +34,7 @@ fn plain_transfer(r: &[u8; 40]) -> bool
     ensures { result ≡ true → SameTransfer r.now }
 {
     let ends = (r[39] == 0) & (r[38] <= 1);
-    if r[25] == 1 {
-        ends
-    } else {
-        ends & (r[25] == 0) & (octets::number_at::<u64, _>(r, 26) == 0)
-    }
+    ends && (r[25] == 1 || (r[25] == 0 && octets::number_at::<u64, _>(r, 26) == 0))
 }
 
 // Whether the bytes from the state on are those written of it.
@@ -52,7 +44,7 @@ fn plain_state(r: &[u8; 40]) -> bool
     if r[12] < 3 {
         no_transfer(r)
     } else {
-        (r[12] < 5) & plain_transfer(r)
+        r[12] < 5 && plain_transfer(r)
     }
 }
 
@@ -60,11 +52,8 @@ fn plain_state(r: &[u8; 40]) -> bool
 fn plain_record(r: &[u8; 40]) -> bool
     ensures { result ≡ true → SameRecord r.now }
 {
-    if plain_client(r) {
-        (r[0] <= 1) & plain_state(r)
-    } else {
-        false
-    }
+    let head = (r[0] <= 1) & plain_client(r);
+    head && plain_state(r)
 }
 
 // Whether the bytes are those written of the eight records that they say; a doubt is a no.
@@ -74,12 +63,14 @@ fn is_plain(t: &[u8; 320]) -> bool
     record::rows(t).iter().all(|r| plain_record(r))
 }
 
-// The bytes are those of the records that they say.
+// The bytes are those of the records that they say. (By `*t = table_bytes(..)` every call fills 320 bytes with 0 first, and a tick takes 2 % more instructions.)
+#[tactic(auto, unfolding(picks::specs::Pick::pick))]
 pub fn tidy(t: &mut [u8; 320])
     ensures { t.new ≡ table_bytes (table_of t.old) }
 {
     if !is_plain(t) {
-        *t = record::table_bytes(record::table_of(t));
+        let row = record::table_of(t);
+        record::put_table(t, row);
     }
 }
 

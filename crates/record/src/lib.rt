@@ -53,7 +53,7 @@ fn state_of(s: &[u8; 40]) -> SdoServerState
 pub fn client_of(s: &[u8; 40]) -> SdoClientInfo
     ensures { result ≡ client_of (drop 1 s.now) }
 {
-    clients::client_in(&[s[1], s[2], s[3], s[4], s[5], s[6], s[7], s[8]])
+    clients::client_of(octets::rest(s, 1))
 }
 
 // The record in its bytes.

@@ -50,22 +50,25 @@ fn is_sound(e: Entry, least: u32, start: u32) -> bool
         && has_room(e)
 }
 
-// Whether the first n entries of an image are sound, one behind the other, up to its end.
+// Whether the first n entries of an image are sound, one behind the other, up to its end. (Inlined into a tick, or with the early return in place of `sound`, its loop takes one to three instructions more an entry.)
+#[inline(never)]
 fn sound_entries(image: &[u8], n: usize) -> bool
     requires { (2 + 12 * n ≤ length image.now) × (length image.now ≤ 65536) }
     ensures { result ≡ sound_entries (length image.now) 0 (2 + 12 * n) (entries_from image.now 2 n) }
 {
+    let mut sound = true;
     let mut least: u32 = 0;
     let mut start = (2 + 12 * n) as u32;
     for i in 0..n {
         let e = entry_in(image, 2 + 12 * i);
-        if !is_sound(e, least, start) {
-            return false;
+        sound = is_sound(e, least, start);
+        if !sound {
+            break;
         }
         least = key_of(e) + 1;
         start += u32::from(e.capacity);
     }
-    start as usize == image.len()
+    sound & (start as usize == image.len())
 }
 
 // Whether an image is sound, in one pass that ends at the first fault.
