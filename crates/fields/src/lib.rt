@@ -7,6 +7,7 @@ ghost use Rattle.protocol.specs.Command.{header_length, undecodable_transaction}
 use protocol::Segmentation;
 
 // The length of a command's header.
+// (No cast gives it: a variant's number is the one on the wire, and three of the four lengths are the same.)
 pub fn header_length(s: Segmentation) -> usize
     ensures { result ≡ header_length s }
 {
