@@ -20,6 +20,7 @@ fn row_of(table: &[Connection]) -> Result<&[Connection; 8], Refusal>
 }
 
 // A request from a client. A refusal leaves what its row of document 01's table says.
+// (load, call and save by one function with the call as a closure does not prove: of an answer that a closure borrows nothing is known behind its call)
 pub fn handle_request(
     table: &mut [Connection],
     area: &mut [u8],

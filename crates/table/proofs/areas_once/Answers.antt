@@ -2,7 +2,6 @@
 use Rattle.table.proofs.Areas.{unseen, mark, seen_not, past_not, unseen_so, areas_pass, nobody}
 use Rattle.picks.proofs.Fold.{checks_more, checks_not, checks_end}
 use mathlib.Core.Bool.{false}
-use mathlib.Core.Path.{sym, ◌∙◌}
 use borrow.Author.Rules.{rules}
 use native.Mathlib.Omega.{arith}
 use Rattle.table.proofs.areas_once.Goals as goal
