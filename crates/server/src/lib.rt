@@ -18,11 +18,12 @@ ghost use Rattle.server.specs.Left.{holds_share, served_on, told_to, ticked_call
 ghost use Rattle.protocol.specs.DeadlineQuery.{told_next_action, query_of};
 
 use protocol::{
-    Answered, BufferTooShort, Called, Connection, Left, Refusal, SdoClientInfo, SdoResponseData,
+    Answered, BufferTooShort, Called, Connection, Left, Refusal, SHARE as PART, SdoClientInfo,
+    SdoResponseData,
 };
 use seats::{Seat, Table};
 
-// A request on a record, whose own part of the area is lent on.
+// A request on a record, whose own part of the area is lent on. (Document 01 finds the part by the record's area number, so its place is counted here.)
 fn serve_share(
     c: Connection,
     area: &mut [u8],
@@ -34,12 +35,14 @@ fn serve_share(
     ensures served { (told_handled result (share_of area.new c.area) image.new ≡ serve c (share_of area.old c.area) image.old clock request.now) }
     ensures area_left { area.new ≡ with_share area.old c.area (share_of area.new c.area) }
 {
-    let from = 8192 * (c.area as usize);
-    let to = from + 8192;
+    let part = PART as usize;
+    let from = part * (c.area as usize);
+    let to = from + part;
     sequence_handler::handle_request(c, &mut area[from..to], image, clock, request)
 }
 
 // The same for an area of any length: one that does not hold the record's part is refused with 1.
+#[tactic(auto, unfolding(picks::specs::Pick::pick, protocol::specs::Constants::SHARE))]
 pub fn serve_record(
     c: Connection,
     area: &mut [u8],
@@ -50,7 +53,8 @@ pub fn serve_record(
     ensures served { told_handled result (share_of area.new c.area) image.new ≡ served_on c area.old image.old clock request.now }
     ensures area_left { area.new ≡ pick (holds_share c area.old) (with_share area.old c.area (share_of area.new c.area)) area.old }
 {
-    if area.len() < 8192 * (c.area as usize) + 8192 {
+    let part = PART as usize;
+    if area.len() < part * (c.area as usize) + part {
         return Left {
             connection: c,
             said: Err(Refusal::Lent),
@@ -60,6 +64,7 @@ pub fn serve_record(
 }
 
 // An answer's bytes in the answer buffer; a piece stands in the record's own part of the area.
+#[tactic(auto, unfolding(protocol::specs::Constants::SHARE))]
 pub fn put_answer<'a>(
     r: SdoResponseData,
     area: &'a [u8],
@@ -70,7 +75,8 @@ pub fn put_answer<'a>(
     ensures told { told_written result ≡ answer_written (told_reply r (share_of area.now number) image.now) answer.old }
     ensures left { answer.new ≡ answer_left (told_reply r (share_of area.now number) image.now) answer.old }
 {
-    let share = octets::part(area, 8192 * (number as usize), 8192);
+    let part = PART as usize;
+    let share = octets::part(area, part * (number as usize), part);
     answer::write_answer(r, share, image, answer)
 }
 
@@ -195,6 +201,7 @@ fn ticked_to(
 }
 
 // A tick that answers: the answer's bytes, and the row without its Closed records.
+#[tactic(auto, unfolding(picks::specs::Pick::pick))]
 fn tick_answered<'a>(
     t: [Connection; 8],
     place: usize,
@@ -257,6 +264,7 @@ pub fn tick_at<'a>(
 }
 
 // A tick of the clock: it looks at the first due record.
+#[tactic(auto, using(crate::proofs::Calls::tick_at_chosen))]
 pub fn tick<'a>(
     t: [Connection; 8],
     area: &'a [u8],
@@ -270,6 +278,7 @@ pub fn tick<'a>(
 }
 
 // The earliest deadline.
+#[tactic(auto, using(crate::proofs::Calls::query_sound, crate::proofs::Calls::query_unsound))]
 pub fn next_action_time(t: [Connection; 8]) -> Result<Option<u64>, Refusal>
     ensures { told_next_action result ≡ query_of t }
 {
