@@ -1,3 +1,3 @@
 pub mod Ids
 pub mod Templates
-pub mod Writes
+pub mod Amounts

@@ -19,6 +19,7 @@ use std::fmt;
 use wording::{Abort, Code, Object};
 
 // A frame without a command.
+#[tactic(auto, unfolding(show::specs::Text::letters, show::specs::Text::entry, picks::specs::Pick::pick, crate::specs::Steps::empty_text))]
 fn empty_step(h: SequenceLayerHeader) -> &'static str
     ensures { result.now ≡ empty_text h }
 {
@@ -40,6 +41,7 @@ struct Named<'a>(&'a [u8]);
 impl fmt::Display for Named<'_> {
     ghost output = { λ x. Some (named_text x.0.now) };
 
+    #[tactic(auto, unfolding(show::specs::Text::letters, picks::specs::Pick::pick, crate::specs::Steps::named_text))]
     fn fmt<W: fmt::Write>(&self, f: &mut fmt::Formatter<W>) -> fmt::Result {
         let payload = self.0;
         if payload.len() < 4 {
@@ -52,6 +54,7 @@ impl fmt::Display for Named<'_> {
 }
 
 // The bytes of a write that names an object: all of an Initiate's, or those behind the object's name.
+#[tactic(auto, unfolding(picks::specs::Pick::pick, crate::specs::Steps::amount_of), using(crate::proofs::Amounts::none_is_0))]
 fn amount(c: SdoCommand) -> u64
     ensures { result ≡ amount_of c }
 {
@@ -102,6 +105,7 @@ struct Write<'a>(Sent<'a>);
 impl fmt::Display for Write<'_> {
     ghost output = { λ x. Some (write_text x.0.command x.0.payload.now) };
 
+    #[tactic(auto, unfolding(picks::specs::Pick::pick, crate::specs::Steps::write_text))]
     fn fmt<W: fmt::Write>(&self, f: &mut fmt::Formatter<W>) -> fmt::Result {
         let segmentation = self.0.command.header.segmentation;
         let words = words_of(segmentation);
@@ -121,6 +125,7 @@ struct Looked<'a>(Sent<'a>);
 impl fmt::Display for Looked<'_> {
     ghost output = { λ x. Some (looked_text x.0.command x.0.payload.now) };
 
+    #[tactic(auto, unfolding(show::specs::Text::letters, picks::specs::Pick::pick, crate::specs::Steps::looked_text, crate::specs::Steps::read_text), using(crate::proofs::Ids::other_id))]
     fn fmt<W: fmt::Write>(&self, f: &mut fmt::Formatter<W>) -> fmt::Result {
         match self.0.command.header.id {
             CommandId::Nil => f.write_str("an empty command (Nil)"),
@@ -139,6 +144,7 @@ struct OwnAbort<'a>(&'a [u8]);
 impl fmt::Display for OwnAbort<'_> {
     ghost output = { λ x. Some (own_abort_text x.0.now) };
 
+    #[tactic(auto, unfolding(show::specs::Text::letters, picks::specs::Pick::pick, crate::specs::Steps::own_abort_text, crate::specs::Steps::coded))]
     fn fmt<W: fmt::Write>(&self, f: &mut fmt::Formatter<W>) -> fmt::Result {
         let payload = self.0;
         if payload.len() < 4 {
@@ -153,6 +159,7 @@ impl fmt::Display for OwnAbort<'_> {
 }
 
 // Where a command comes with the opening.
+#[tactic(auto, unfolding(show::specs::Text::letters, picks::specs::Pick::pick, crate::specs::Steps::opening_text))]
 fn opening(h: SequenceLayerHeader) -> &'static str
     ensures { result.now ≡ opening_text h }
 {
@@ -172,6 +179,7 @@ struct Acted<'a> {
 impl fmt::Display for Acted<'_> {
     ghost output = { λ x. Some (acted_text x.header x.sent.command x.sent.payload.now) };
 
+    #[tactic(auto, unfolding(picks::specs::Pick::pick, crate::specs::Steps::acted_text))]
     fn fmt<W: fmt::Write>(&self, f: &mut fmt::Formatter<W>) -> fmt::Result {
         let Acted { header, sent } = *self;
         let opening = opening(header);
@@ -189,6 +197,7 @@ struct Asked<'a>(Acted<'a>);
 impl fmt::Display for Asked<'_> {
     ghost output = { λ x. Some (asked_text x.0.header x.0.sent.command x.0.sent.payload.now) };
 
+    #[tactic(auto, unfolding(show::specs::Text::letters, picks::specs::Pick::pick, crate::specs::Steps::asked_text))]
     fn fmt<W: fmt::Write>(&self, f: &mut fmt::Formatter<W>) -> fmt::Result {
         if self.0.header.rcon == ReceiveConnState::ErrorResponse {
             let again =
@@ -209,6 +218,7 @@ pub struct Request<'a> {
 impl fmt::Display for Request<'_> {
     ghost output = { λ x. Some (request_text x.frame x.bytes.now) };
 
+    #[tactic(auto, unfolding(show::specs::Text::letters))]
     fn fmt<W: fmt::Write>(&self, f: &mut fmt::Formatter<W>) -> fmt::Result {
         let Request { frame, bytes } = *self;
         match frame {
@@ -234,6 +244,7 @@ struct Range {
 impl fmt::Display for Range {
     ghost output = { λ x. Some (range_text x.reading x.length) };
 
+    #[tactic(auto, unfolding(picks::specs::Pick::pick, crate::specs::Steps::range_text), using(show::proofs::Written::nothing_yet))]
     fn fmt<W: fmt::Write>(&self, f: &mut fmt::Formatter<W>) -> fmt::Result {
         let Reading { sent, total, .. } = self.reading;
         let last = sent as usize;
@@ -256,6 +267,7 @@ struct Part<'a> {
 impl fmt::Display for Part<'_> {
     ghost output = { λ x. Some (piece_text x.what.now x.reading x.length) };
 
+    #[tactic(auto, unfolding(show::specs::Text::letters, picks::specs::Pick::pick, crate::specs::Steps::piece_text))]
     fn fmt<W: fmt::Write>(&self, f: &mut fmt::Formatter<W>) -> fmt::Result {
         let Part {
             what,
@@ -299,6 +311,7 @@ impl fmt::Display for Whole {
 }
 
 // An answer that is no piece of an upload and no abort, to a command.
+#[tactic(auto, unfolding(show::specs::Text::letters, picks::specs::Pick::pick, crate::specs::Steps::taken_text), using(crate::proofs::Ids::other_id))]
 fn taken(id: CommandId) -> &'static str
     ensures { result.now ≡ taken_text (id_byte id) }
 {
@@ -310,6 +323,7 @@ fn taken(id: CommandId) -> &'static str
 }
 
 // An answer that is no piece of an upload and no abort, by what it answers.
+#[tactic(auto, unfolding(show::specs::Text::letters))]
 fn taken_by(request: Frame) -> &'static str
     ensures { result.now ≡ taken_by request }
 {
@@ -321,6 +335,7 @@ fn taken_by(request: Frame) -> &'static str
 }
 
 // An answer that is no piece of an upload and no abort.
+#[tactic(auto, unfolding(show::specs::Text::letters, picks::specs::Pick::pick, crate::specs::Steps::replied_text))]
 fn other(request: Frame, answer: Frame) -> &'static str
     ensures { result.now ≡ other_text request answer }
 {
@@ -337,6 +352,7 @@ fn other(request: Frame, answer: Frame) -> &'static str
 }
 
 // An abort as an answer: without a code it confirms the client's own.
+// (a frame may hold any number as its code, so it stays a number)
 #[derive(Clone, Copy)]
 struct Aborted {
     frame: Frame,
@@ -346,6 +362,7 @@ struct Aborted {
 impl fmt::Display for Aborted {
     ghost output = { λ x. Some (aborted_text x.frame x.code) };
 
+    #[tactic(auto, unfolding(show::specs::Text::letters, picks::specs::Pick::pick, crate::specs::Steps::aborted_text))]
     fn fmt<W: fmt::Write>(&self, f: &mut fmt::Formatter<W>) -> fmt::Result {
         if frame::size(self.frame) < 4 {
             return f.write_str("confirms the abort");
@@ -381,6 +398,7 @@ impl Answer {
 impl fmt::Display for Answer {
     ghost output = { λ x. Some (answer_text x.request x.frame x.piece x.reading) };
 
+    #[tactic(auto, unfolding(show::specs::Text::letters))]
     fn fmt<W: fmt::Write>(&self, f: &mut fmt::Formatter<W>) -> fmt::Result {
         match self.piece {
             Piece::Other => f.write_str(other(self.request, self.frame)),

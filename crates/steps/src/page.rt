@@ -1,4 +1,5 @@
 // The same words laid on a page, whatever it holds.
+// (each has the page and the place as parameters: a struct of both would be made anew and taken apart in every public function, which takes them so)
 ghost use Rattle.std.specs.Prelude.{◌≡◌};
 ghost use Rattle.show.specs.Text.{page_at, laid};
 ghost use Rattle.steps.specs.Steps.{named_text, written_text, write_text, looked_text, own_abort_text, acted_text, asked_text, request_text, range_text, piece_text, whole_text, aborted_text, answer_text};
@@ -22,37 +23,38 @@ fn put_named(page: &mut [u8], at: usize, payload: &[u8]) -> usize
 
 // How many bytes a write has, and its object.
 #[tactic(auto, unfolding(show::specs::Text::letters, crate::specs::Steps::written_text), using(show::proofs::Laid::laid_laid))]
-fn put_written(page: &mut [u8], at: usize, s: Sent<'_>) -> usize
-    ensures { page_at result page.new ≡ laid (page_at at page.old) (written_text s.entry.command s.entry.payload.now) }
+fn put_written(page: &mut [u8], at: usize, sent: Sent<'_>) -> usize
+    ensures { page_at result page.new ≡ laid (page_at at page.old) (written_text sent.entry.command sent.entry.payload.now) }
 {
-    let at = show::put_number(page, at, amount(s.command));
+    let at = show::put_number(page, at, amount(sent.command));
     let at = show::put(page, at, b" bytes to ");
-    put_named(page, at, s.payload)
+    put_named(page, at, sent.payload)
 }
 
 // A write.
-fn put_write(page: &mut [u8], at: usize, s: Sent<'_>) -> usize
-    ensures { page_at result page.new ≡ laid (page_at at page.old) (write_text s.entry.command s.entry.payload.now) }
+#[tactic(auto, unfolding(picks::specs::Pick::pick, crate::specs::Steps::write_text), using(show::proofs::Laid::laid_laid, show::proofs::Laid::laid_none))]
+fn put_write(page: &mut [u8], at: usize, sent: Sent<'_>) -> usize
+    ensures { page_at result page.new ≡ laid (page_at at page.old) (write_text sent.entry.command sent.entry.payload.now) }
 {
-    let segmentation = s.command.header.segmentation;
+    let segmentation = sent.command.header.segmentation;
     let at = show::put(page, at, words_of(segmentation).as_bytes());
     match segmentation {
-        Segmentation::Expedited | Segmentation::Initiate => put_written(page, at, s),
+        Segmentation::Expedited | Segmentation::Initiate => put_written(page, at, sent),
         Segmentation::Segment | Segmentation::Complete => at,
     }
 }
 
 // A command that the controller looks at.
 #[tactic(auto, unfolding(show::specs::Text::letters, picks::specs::Pick::pick, crate::specs::Steps::looked_text, crate::specs::Steps::read_text), using(show::proofs::Laid::laid_laid))]
-fn put_looked(page: &mut [u8], at: usize, s: Sent<'_>) -> usize
-    ensures { page_at result page.new ≡ laid (page_at at page.old) (looked_text s.entry.command s.entry.payload.now) }
+fn put_looked(page: &mut [u8], at: usize, sent: Sent<'_>) -> usize
+    ensures { page_at result page.new ≡ laid (page_at at page.old) (looked_text sent.entry.command sent.entry.payload.now) }
 {
-    match s.command.header.id {
+    match sent.command.header.id {
         CommandId::Nil => show::put(page, at, b"an empty command (Nil)"),
-        CommandId::WriteByIndex => put_write(page, at, s),
+        CommandId::WriteByIndex => put_write(page, at, sent),
         CommandId::ReadByIndex => {
             let at = show::put(page, at, b"reads ");
-            put_named(page, at, s.payload)
+            put_named(page, at, sent.payload)
         }
         CommandId::MaxSegmentSize => show::put(page, at, b"asks how long a piece may be"),
         _ => show::put(page, at, b"a command that this controller does not serve"),
@@ -152,6 +154,7 @@ fn put_whole(page: &mut [u8], at: usize, r: Reading) -> usize
 }
 
 // An abort as an answer: without a code it confirms the client's own.
+// (a frame may hold any number as its code, so it stays a number)
 #[tactic(auto, unfolding(show::specs::Text::letters, picks::specs::Pick::pick, crate::specs::Steps::aborted_text), using(show::proofs::Laid::laid_laid))]
 fn put_aborted(page: &mut [u8], at: usize, a: Frame, code: u32) -> usize
     ensures { page_at result page.new ≡ laid (page_at at page.old) (aborted_text a code) }

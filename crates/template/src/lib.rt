@@ -20,6 +20,7 @@ fn put_digits(page: &mut [u8], at: usize, n: u64, base: u64, k: u8) -> usize
 }
 
 // What a letter of a template stands for, at a number.
+// (a mark is a letter of the text, read once and here)
 #[tactic(auto, unfolding(crate::specs::Filled::letter_text, picks::specs::Pick::pick))]
 fn put_letter(page: &mut [u8], at: usize, letter: u8, n: u64) -> usize
     ensures { page_at result page.new ≡ laid (page_at at page.old) (letter_text letter n) }

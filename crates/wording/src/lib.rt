@@ -85,6 +85,7 @@ pub struct Code(pub u32);
 impl fmt::Display for Code {
     ghost output = { λ x. Some (code_text x.0) };
 
+    #[tactic(auto, unfolding(show::specs::Text::letters, picks::specs::Pick::pick), using(show::proofs::Numbers::hex_padded))]
     fn fmt<W: fmt::Write>(&self, f: &mut fmt::Formatter<W>) -> fmt::Result {
         let Code(code) = *self;
         write!(f, "{code:08X}")
@@ -92,6 +93,8 @@ impl fmt::Display for Code {
 }
 
 // The meaning of an abort's code.
+// (a frame may hold any number here, so it stays a number)
+#[tactic(auto, unfolding(show::specs::Text::letters, picks::specs::Pick::pick, crate::specs::Words::meaning, crate::specs::Words::text_of))]
 fn meaning_of(code: u32) -> &'static str
     ensures { result.now ≡ meaning code }
 {
@@ -118,6 +121,7 @@ pub struct Abort(pub u32);
 impl fmt::Display for Abort {
     ghost output = { λ x. Some (abort_text x.0) };
 
+    #[tactic(auto, unfolding(show::specs::Text::letters, crate::specs::Words::abort_text))]
     fn fmt<W: fmt::Write>(&self, f: &mut fmt::Formatter<W>) -> fmt::Result {
         let Abort(code) = *self;
         write!(f, "{}: {}", Code(code), meaning_of(code))
@@ -125,6 +129,8 @@ impl fmt::Display for Abort {
 }
 
 // The meaning of a refusal's number.
+// (a recording may hold any number here, so it stays a number)
+#[tactic(auto, unfolding(show::specs::Text::letters, show::specs::Text::entry), using(crate::proofs::Refusals::none_past))]
 fn refusal_of(number: u8) -> &'static str
     ensures { result.now ≡ entry number refusals }
 {
@@ -157,6 +163,7 @@ impl fmt::Display for Refused {
 }
 
 // A command's name.
+#[tactic(auto, unfolding(show::specs::Text::letters, picks::specs::Pick::pick, crate::specs::Words::id_text, crate::specs::Words::text_of))]
 fn name_of(id: CommandId) -> &'static str
     ensures { result.now ≡ id_text (id_byte id) }
 {
@@ -178,6 +185,8 @@ fn name_of(id: CommandId) -> &'static str
 }
 
 // The word of a sequence header's receive mark.
+// (three enums, and each case of each has a word of its own: they share no line but the match)
+#[tactic(auto, unfolding(show::specs::Text::letters, show::specs::Text::entry))]
 fn received(mark: ReceiveConnState) -> &'static str
     ensures { result.now ≡ entry (receive_mark mark) receive_marks }
 {
@@ -190,6 +199,7 @@ fn received(mark: ReceiveConnState) -> &'static str
 }
 
 // The word of its send mark.
+#[tactic(auto, unfolding(show::specs::Text::letters, show::specs::Text::entry))]
 fn sent(mark: SendConnState) -> &'static str
     ensures { result.now ≡ entry (send_mark mark) send_marks }
 {
@@ -225,6 +235,7 @@ impl fmt::Display for Header {
 }
 
 // The word of a command's segmentation.
+#[tactic(auto, unfolding(show::specs::Text::letters, show::specs::Text::entry))]
 fn segmentation_of(segmentation: Segmentation) -> &'static str
     ensures { result.now ≡ entry (segmentation_number segmentation) segmentations }
 {
@@ -237,6 +248,7 @@ fn segmentation_of(segmentation: Segmentation) -> &'static str
 }
 
 // A word where a flag is set.
+#[tactic(auto, unfolding(picks::specs::Pick::pick))]
 fn flagged(flag: bool, word: &str) -> &str
     ensures { result.now ≡ pick flag word.now [] }
 {
@@ -250,6 +262,7 @@ struct Kind(CommandLayerHeader);
 impl fmt::Display for Kind {
     ghost output = { λ x. Some (kind_text x.0) };
 
+    #[tactic(auto, unfolding(show::specs::Text::letters, crate::specs::Words::kind_text))]
     fn fmt<W: fmt::Write>(&self, f: &mut fmt::Formatter<W>) -> fmt::Result {
         let Kind(header) = *self;
         let name = name_of(header.id);
@@ -267,6 +280,7 @@ struct Total(SdoCommand);
 impl fmt::Display for Total {
     ghost output = { λ x. Some (total_text x.0) };
 
+    #[tactic(auto, unfolding(picks::specs::Pick::pick, crate::specs::Words::total_text), using(show::proofs::Written::nothing_yet))]
     fn fmt<W: fmt::Write>(&self, f: &mut fmt::Formatter<W>) -> fmt::Result {
         let Total(command) = *self;
         if command.header.segmentation != Segmentation::Initiate {
@@ -303,6 +317,7 @@ struct Parts(Frame);
 impl fmt::Display for Parts {
     ghost output = { λ x. Some (decoded_text x.0) };
 
+    #[tactic(auto, using(show::proofs::Written::nothing_yet))]
     fn fmt<W: fmt::Write>(&self, f: &mut fmt::Formatter<W>) -> fmt::Result {
         match self.0 {
             Frame::Short => Ok(()),

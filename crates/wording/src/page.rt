@@ -1,4 +1,5 @@
 // The same words laid on a page, whatever it holds.
+// (each has the page and the place as parameters: a struct of both would be made anew and taken apart in every public function, which takes them so)
 ghost use Rattle.std.specs.Prelude.{◌≡◌, ◌++◌};
 ghost use Rattle.show.specs.Text.{page_at, laid, decimal_text};
 ghost use Rattle.wording.specs.Words.{clock_text, mac_text, node_text, port_text, client_text, code_text, object_text, abort_text, refusal_text, header_text, kind_text, total_text, command_text, decoded_text, frame_text};
@@ -69,6 +70,7 @@ pub fn put_object(page: &mut [u8], at: usize, index: u16, sub: u8) -> usize
 }
 
 // A number in eight hex digits.
+// (a frame may hold any number here and in put_abort, so it stays a number)
 #[tactic(auto, unfolding(show::specs::Text::letters, template::specs::Filled::filled, template::specs::Filled::letter_text, template::specs::Filled::taken, picks::specs::Pick::pick))]
 pub fn put_code(page: &mut [u8], at: usize, code: u32) -> usize
     ensures { page_at result page.new ≡ laid (page_at at page.old) (code_text code) }
@@ -87,6 +89,7 @@ pub fn put_abort(page: &mut [u8], at: usize, code: u32) -> usize
 }
 
 // A refusal's number and its meaning.
+// (a recording may hold any number here, so it stays a number)
 #[tactic(auto, unfolding(show::specs::Text::letters, template::specs::Filled::filled, template::specs::Filled::letter_text, template::specs::Filled::taken, picks::specs::Pick::pick, crate::specs::Words::refusal_text), using(show::proofs::Laid::laid_laid))]
 pub fn put_refusal(page: &mut [u8], at: usize, number: u8) -> usize
     ensures { page_at result page.new ≡ laid (page_at at page.old) (refusal_text number) }

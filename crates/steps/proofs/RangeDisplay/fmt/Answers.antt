@@ -8,11 +8,6 @@ use Rattle.show.proofs.Numbers.{decimal_same}
 use Rattle.steps.specs.Steps.{range_text}
 use Rattle.steps.proofs.RangeDisplay.fmt.Goals as goal
 
-pub returns-then-last-self-clause-writes : goal.returns-then-last-self-clause-writes
-unfolding letters pick range_text
-returns-then-last-self-clause-writes g c p ok =
-    nothing_yet (rw (lt-leb _ _ c.if-last-self.true)) p
-
 pub returns-clause-writes : goal.returns-clause-writes
 unfolding letters pick range_text
 returns-clause-writes g c p ok =

@@ -14,12 +14,6 @@ none_is_0 : (o : Option ℕ) → unwrap_or o 0 ≡ total_number o
 none_is_0 None = refl
 none_is_0 (Some n) = refl
 
-pub returns-then-ne-clause-writes : goal.returns-then-ne-clause-writes
-unfolding letters total_text pick
-returns-then-ne-clause-writes g c p ok =
-    let e : eqb (segmentation_number c.args.self.now.0.header.segmentation) 1 ≡ false = search rules in
-    nothing_yet (rw e) p
-
 pub returns-clause-writes : goal.returns-clause-writes
 unfolding letters total_text pick
 returns-clause-writes g c p ok =
