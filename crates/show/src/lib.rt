@@ -35,6 +35,7 @@ pub struct Start<'a> {
 impl fmt::Display for Start<'_> {
     ghost output = { λ x. Some (start_text x.bytes.now x.shown) };
 
+    #[tactic(auto, unfolding(crate::specs::Text::start_text, crate::specs::Text::more_text, crate::specs::Text::letters, picks::specs::Pick::pick), using(crate::proofs::Numbers::decimal_same))]
     fn fmt<W: fmt::Write>(&self, f: &mut fmt::Formatter<W>) -> fmt::Result {
         let length = self.bytes.len();
         if self.shown < length {
@@ -55,6 +56,7 @@ fn find(text: &[u8], mark: u8) -> usize
 }
 
 // What stands before the first such mark.
+#[tactic(auto, unfolding(crate::specs::Text::until_mark))]
 pub fn before(text: &[u8], mark: u8) -> &[u8]
     ensures { result.now ≡ until_mark mark text.now }
 {
@@ -62,6 +64,7 @@ pub fn before(text: &[u8], mark: u8) -> &[u8]
 }
 
 // What stands behind the first such mark.
+#[tactic(auto, unfolding(crate::specs::Text::behind_mark))]
 pub fn behind(text: &[u8], mark: u8) -> &[u8]
     ensures { result.now ≡ behind_mark mark text.now }
 {
@@ -70,6 +73,7 @@ pub fn behind(text: &[u8], mark: u8) -> &[u8]
 
 // The line of a text with this number, from 0.
 // (the range counts the lines passed, and has no index)
+#[tactic(auto, unfolding(crate::specs::Text::line_of), using(crate::proofs::Texts::line_more))]
 pub fn line(text: &[u8], n: u8) -> &[u8]
     ensures { result.now ≡ line_of n text.now }
 {

@@ -6,6 +6,7 @@ ghost use Rattle.show.specs.Text.{page_at, laid, digit_of, hex_text, decimal_tex
 use itoa::Buffer;
 
 // A text goes to a page from a place on, as far as the page goes; answers the place behind it.
+#[tactic(auto, unfolding(crate::specs::Text::laid), using(crate::proofs::Laid::page_path))]
 pub fn put(page: &mut [u8], at: usize, text: &[u8]) -> usize
     ensures { page_at result page.new ≡ laid (page_at at page.old) text.now }
 {

@@ -54,7 +54,7 @@ impl fmt::Display for Named<'_> {
 }
 
 // The bytes of a write that names an object: all of an Initiate's, or those behind the object's name.
-#[tactic(auto, unfolding(picks::specs::Pick::pick, crate::specs::Steps::amount_of), using(crate::proofs::Amounts::none_is_0))]
+#[tactic(auto, unfolding(picks::specs::Pick::pick, crate::specs::Steps::amount_of), using(wording::proofs::Totals::none_is_0))]
 fn amount(c: SdoCommand) -> u64
     ensures { result ≡ amount_of c }
 {

@@ -1,2 +1,3 @@
 pub mod Templates
 pub mod Refusals
+pub mod Totals

@@ -1,7 +1,7 @@
 -- A template, filled, is the text that its definition has.
-use Rattle.std.proofs.Common.{ℕ, ◌/◌, ◌%◌, ◌^◌, ◌≡◌, refl, [], ◌∷◌, ◌++◌, append_assoc, append-nil}
+use Rattle.std.proofs.Common.{ℕ, ◌/◌, ◌%◌, ◌^◌, ◌≡◌, refl, [], ◌∷◌, append_assoc, append-nil}
 use Rattle.picks.specs.Pick.{pick}
-use Rattle.show.specs.Text.{letters, hex_text}
+use Rattle.show.specs.Text.{letters}
 use Rattle.show.proofs.Numbers.{last_byte}
 use Rattle.template.specs.Filled.{letter_text, taken, filled}
 use Rattle.wording.specs.Words.{mac_text, dashed}

@@ -1,7 +1,7 @@
 -- Where so many bytes were sent.
 use Rattle.std.proofs.Common.{arith, refl, sym, ◌+◌, ◌-◌, append_assoc}
-use Rattle.show.proofs.Written.{as_text, nothing_yet}
-use borrow.Author.Tests.{le-leb, lt-leb}
+use Rattle.show.proofs.Written.{as_text}
+use borrow.Author.Tests.{le-leb}
 use Rattle.picks.specs.Pick.{pick}
 use Rattle.show.specs.Text.{letters}
 use Rattle.show.proofs.Numbers.{decimal_same}

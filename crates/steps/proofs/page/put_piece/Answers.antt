@@ -1,5 +1,4 @@
 -- Without a size there is no object.
-use Rattle.std.proofs.Common.{◌∙◌}
 use borrow.Author.Tests.{eq-eqb}
 use Rattle.picks.specs.Pick.{pick}
 use Rattle.show.specs.Text.{letters}

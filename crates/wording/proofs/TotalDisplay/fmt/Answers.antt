@@ -1,18 +1,14 @@
 -- By the segmentation.
-use Rattle.std.proofs.Common.{◌≡◌, ◌∙◌, refl, ℕ, true, false, arith, rules, sym}
-use Rattle.show.proofs.Written.{as_text, nothing_yet}
+use Rattle.std.proofs.Common.{◌≡◌, ◌∙◌, refl, true, arith, rules, sym}
+use Rattle.show.proofs.Written.{as_text}
 use Rattle.picks.specs.Pick.{pick}
 use lib.Dec.{eqb}
-use Rattle.std.specs.Prelude.{Option, None, Some, unwrap_or}
 use Rattle.protocol.specs.Command.{segmentation_number, total_number}
 use Rattle.show.specs.Text.{letters}
 use Rattle.show.proofs.Numbers.{decimal_same}
 use Rattle.wording.specs.Words.{total_text}
+use Rattle.wording.proofs.Totals.{none_is_0}
 use Rattle.wording.proofs.TotalDisplay.fmt.Goals as goal
-
-none_is_0 : (o : Option ℕ) → unwrap_or o 0 ≡ total_number o
-none_is_0 None = refl
-none_is_0 (Some n) = refl
 
 pub returns-clause-writes : goal.returns-clause-writes
 unfolding letters total_text pick

@@ -1,5 +1,4 @@
 -- The words behind one another.
-use Rattle.std.proofs.Common.{◌∙◌}
 use Rattle.show.specs.Text.{letters}
 use Rattle.show.proofs.Laid.{then}
 use Rattle.wording.specs.Words.{kind_text}

@@ -1,7 +1,7 @@
 -- The template, filled.
-use Rattle.std.proofs.Common.{rules, ap, refl, append_assoc, append-nil, ◌∙◌}
+use Rattle.std.proofs.Common.{refl, append_assoc, append-nil, ◌∙◌}
 use Rattle.picks.specs.Pick.{pick}
-use Rattle.show.specs.Text.{letters, page_at, laid}
+use Rattle.show.specs.Text.{letters}
 use Rattle.template.specs.Filled.{filled, letter_text, taken}
 use Rattle.wording.specs.Words.{object_text}
 use Rattle.wording.proofs.page.put_object.Goals as goal
