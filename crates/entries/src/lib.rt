@@ -24,6 +24,7 @@ pub fn entry_in(place: usize, b: &[u8]) -> Entry
 }
 
 // The entry at a place of an image.
+// (Entry.place is a number of the whole image, where a write finds it again, so the part alone would not do.)
 pub fn entry_at(image: &[u8], at: usize) -> Entry
     ensures { result ≡ entry_at image.now at }
 {
@@ -90,6 +91,7 @@ pub fn writable(l: Result<Entry, LookupError>, n: usize) -> Result<Entry, AbortC
 }
 
 // The length of the entry at a place is set.
+// (n is the number stored, and no count of the image's entries.)
 fn set_length(image: &mut [u8], place: usize, n: u16)
     ensures { image.new ≡ splice (place + 10) (le_bytes 2 n) image.old }
 {

@@ -4,7 +4,7 @@
 ghost use Rattle.std.specs.Prelude.{◌≡◌, true, ◌&&◌, ◌<◌, get_or, IfSome};
 ghost use Rattle.picks.specs.Pick.{every};
 ghost use Rattle.protocol.specs.declared.SdoClientInfo.TheVariants.{Asnd};
-ghost use Rattle.protocol.specs.ConnectionTable.{before, same_client, is_fresh, fresh, holds, place_of, sound_state, sound_record, deadline_of, earliest, ordered, areas_once, sound_table};
+ghost use Rattle.protocol.specs.ConnectionTable.{same_client, is_fresh, fresh, holds, place_of, sound_state, sound_record, deadline_of, earliest, ordered, areas_once, sound_table};
 ghost use Rattle.format.specs.Format.{record_of, is_table, table_of};
 ghost use Rattle.connection.specs.Among.{follows, is_behind};
 ghost use Rattle.table.specs.Row.{place_in, unused_place, seat_place};
@@ -27,41 +27,28 @@ fn is_nobody(r: &[u8; 40]) -> bool
 }
 
 // Whether a record is unused and fresh, but for its area number.
+// (Asked of a record made of the bytes, as `connection` asks it, a tick of no client takes 34 % more instructions.)
 fn is_fresh(r: &[u8; 40]) -> bool
     ensures { result ≡ is_fresh (record_of r.now) }
 {
     !is_used(r) & is_nobody(r) & (r[10] == 0) & (r[11] == 63) & (r[12] == 0)
 }
 
-// Whether a client stands before another, as their derived order has it. (By `<` itself a deadline query of eight clients takes 8 % more instructions.)
-fn is_before(a: SdoClientInfo, b: SdoClientInfo) -> bool
-    ensures { result ≡ before a b }
-{
-    match a {
-        SdoClientInfo::Asnd { node, mac } => match b {
-            SdoClientInfo::Asnd { node: n, mac: m } => (node < n) | ((node == n) & (mac < m)),
-            SdoClientInfo::Udp { ip: _, port: _ } => true,
-        },
-        SdoClientInfo::Udp { ip, port } => match b {
-            SdoClientInfo::Asnd { node: _, mac: _ } => false,
-            SdoClientInfo::Udp { ip: i, port: p } => (ip < i) | ((ip == i) & (port < p)),
-        },
-    }
-}
-
 // Whether a record may stand next behind another.
+// (Asked of records made of the bytes, as `connection` asks it, a deadline query of no client takes four times the instructions.)
 #[tactic(auto, unfolding(picks::specs::Pick::pick, format::specs::Format::record_of))]
 fn follows(x: &[u8; 40], y: &[u8; 40]) -> bool
     ensures { result ≡ follows (record_of x.now) (record_of y.now) }
 {
     if is_used(x) {
-        !is_used(y) || is_before(record::client_of(x), record::client_of(y))
+        !is_used(y) || record::client_of(x) < record::client_of(y)
     } else {
         is_fresh(x) & !is_used(y)
     }
 }
 
 // Used records come first, clients strictly ascending, and unused ones are fresh.
+// (`table` asks it of a row of records: the test of a pair has another type, and what both share is `is_sorted_by`.)
 fn is_ordered(t: &[u8; 320]) -> bool
     ensures { result ≡ ordered (table_of t.now) }
 {
@@ -71,6 +58,7 @@ fn is_ordered(t: &[u8; 320]) -> bool
 }
 
 // Area numbers 0 to 7, each once.
+// (A test that there is a flag for the number: none stands for no number. `table` reads the numbers of a row of records.)
 fn areas_once(t: &[u8; 320]) -> bool
     ensures { result ≡ areas_once (table_of t.now) }
 {
@@ -100,6 +88,7 @@ fn sound_state(r: &[u8; 40]) -> bool
 }
 
 // Sequence numbers at most 63, and a sound transfer.
+// (Asked of a record made of the bytes, as `transfers` asks it, a deadline query of eight clients takes 87 % more instructions.)
 fn is_sound_record(r: &[u8; 40]) -> bool
     ensures { result ≡ sound_record (record_of r.now) }
 {
@@ -107,6 +96,7 @@ fn is_sound_record(r: &[u8; 40]) -> bool
 }
 
 // Whether every record of an ordered table is sound: the unused ones are fresh, which is sound.
+// (`table` asks all eight; here the unused ones are passed over, which an order allows.)
 fn records_sound(t: &[u8; 320]) -> bool
     requires { ordered (table_of t.now) ≡ true }
     ensures { result ≡ every sound_record (table_of t.now) }
@@ -126,6 +116,7 @@ pub fn is_sound(t: &[u8; 320]) -> bool
 }
 
 // Whether a record is a used one of the client's.
+// (Asked of a record made of the bytes, as `connection` asks it, a handshake takes 24 % more instructions.)
 #[tactic(auto, unfolding(picks::specs::Pick::pick, format::specs::Format::record_of))]
 fn is_held(r: &[u8; 40], client: SdoClientInfo) -> bool
     ensures { result ≡ holds client (record_of r.now) }
@@ -134,6 +125,7 @@ fn is_held(r: &[u8; 40], client: SdoClientInfo) -> bool
 }
 
 // The place of the client's record.
+// (Each search is one line: a function of its test would be `position` itself. No type holds a number below 8, so a clause says it.)
 pub fn place_of(t: &[u8; 320], client: SdoClientInfo) -> Option<usize>
     ensures place { place_in result ≡ place_of client (table_of t.now) }
     ensures inside { IfSome result (λ i. i < 8) }
@@ -142,6 +134,7 @@ pub fn place_of(t: &[u8; 320], client: SdoClientInfo) -> Option<usize>
 }
 
 // The place of the first unused record.
+// (No type holds a number below 8, so a clause says it.)
 pub fn unused_place(t: &[u8; 320]) -> Option<usize>
     ensures place { place_in result ≡ unused_place (table_of t.now) }
     ensures inside { IfSome result (λ i. i < 8) }
@@ -150,14 +143,14 @@ pub fn unused_place(t: &[u8; 320]) -> Option<usize>
 }
 
 // Whether a client's record belongs before this one.
-#[tactic(auto, unfolding(picks::specs::Pick::pick, format::specs::Format::record_of))]
 fn is_behind(r: &[u8; 40], client: SdoClientInfo) -> bool
     ensures { result ≡ is_behind client (record_of r.now) }
 {
-    !is_used(r) || !(record::client_of(r) < client)
+    connection::is_behind(record::record_of(r), client)
 }
 
 // Where a client's record belongs.
+// (No type holds a number below 8, so a clause says it.)
 pub fn seat_place(t: &[u8; 320], client: SdoClientInfo) -> Option<usize>
     ensures place { place_in result ≡ seat_place client (table_of t.now) }
     ensures inside { IfSome result (λ i. i < 8) }
@@ -166,6 +159,7 @@ pub fn seat_place(t: &[u8; 320], client: SdoClientInfo) -> Option<usize>
 }
 
 // When a record is due, an unused one never.
+// (Asked of a record made of the bytes, as `transfers` asks it, a deadline query of eight clients takes 92 % more instructions.)
 fn deadline_of(r: &[u8; 40]) -> Option<u64>
     ensures { result ≡ deadline_of (record_of r.now) }
 {
@@ -177,6 +171,7 @@ fn deadline_of(r: &[u8; 40]) -> Option<u64>
 }
 
 // The earliest deadline.
+// (`table` folds a row of records: what both share is `fold` and `earlier`.)
 pub fn next_deadline(t: &[u8; 320]) -> Option<u64>
     ensures { result ≡ earliest (table_of t.now) }
 {
@@ -198,6 +193,7 @@ fn is_quiet_record(r: &[u8; 40], clock: u64) -> bool
 }
 
 // Whether a tick finds nothing to do.
+// (One line, of another test than the searches': a function of the test would be `all` itself.)
 pub fn is_quiet(t: &[u8; 320], clock: u64) -> bool
     ensures { result ≡ every (is_quiet clock) (table_of t.now) }
 {
@@ -205,6 +201,7 @@ pub fn is_quiet(t: &[u8; 320], clock: u64) -> bool
 }
 
 // The area number of the record at a place; 0 past the end.
+// (A table and a place of it go apart: a pair of them would be made for one call and taken apart in it.)
 pub fn area_at(t: &[u8; 320], i: usize) -> u8
     ensures { result ≡ (get_or (table_of t.now) i (fresh 0)).area }
 {
@@ -215,6 +212,7 @@ pub fn area_at(t: &[u8; 320], i: usize) -> u8
 }
 
 // The record at a place; past the end a fresh one.
+// (By this area_at would make a record for one of its bytes.)
 pub fn record_at(t: &[u8; 320], i: usize) -> Connection
     ensures { result ≡ get_or (table_of t.now) i (fresh 0) }
 {

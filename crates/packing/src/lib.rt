@@ -75,6 +75,7 @@ pub fn tidy(t: &mut [u8; 320])
 }
 
 // Another record at a place; past the end the records stay.
+// (A test that the place is one of the table's: no number stands for none.)
 pub fn replace(t: &mut [u8; 320], i: usize, c: Connection)
     ensures { t.new ≡ table_bytes (set (table_of t.old) i c) }
 {
@@ -93,6 +94,7 @@ fn shift(t: &mut [u8; 320], from: usize, len: usize, to: usize)
 }
 
 // A record put at a place and those from there up to place n moved up by one; the one at place n is lost. Where there is no such place the records stay.
+// (Two places of records and no part of the bytes: those between them move, and any number may come.)
 pub fn insert(t: &mut [u8; 320], at: usize, n: usize, c: Connection)
     ensures { t.new ≡ table_bytes (pick (leb at n && ltb n 8) (put_in at n c (table_of t.old)) (table_of t.old)) }
 {
@@ -104,6 +106,7 @@ pub fn insert(t: &mut [u8; 320], at: usize, n: usize, c: Connection)
 }
 
 // The record at a place dropped, its area number behind all others; past the end nothing is dropped.
+// (A test that the place is one of the table's, before a byte of the record there is read.)
 pub fn drop_at(t: &mut [u8; 320], i: usize)
     ensures { t.new ≡ table_bytes (dropped_at i (table_of t.old)) }
 {

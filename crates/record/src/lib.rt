@@ -37,6 +37,7 @@ pub fn transfer_of(s: &[u8; 40]) -> SdoTransferState
 }
 
 // The state of a record's bytes.
+// (Here the format's numbers become states: each number above 3 is read as a download.)
 fn state_of(s: &[u8; 40]) -> SdoServerState
     ensures { result ≡ state_of s.now }
 {
@@ -112,6 +113,7 @@ pub fn is_table(s: &[u8]) -> bool
 }
 
 // A state's number.
+// (Two of the states carry a transfer, so no cast gives the format's numbers.)
 fn state_number(s: SdoServerState) -> u8
     ensures { result ≡ state_number s }
 {
@@ -168,6 +170,7 @@ fn lay_record(out: &mut [u8], c: Connection)
 }
 
 // A record's bytes go to a place.
+// (as_chunks_mut would name the records, but its contract says nothing of what the bytes are after it.)
 fn put_record(out: &mut [u8], at: usize, c: Connection)
     requires { at + 40 ≤ length out.old }
     ensures { out.new ≡ splice at (record_bytes c) out.old }
@@ -177,6 +180,7 @@ fn put_record(out: &mut [u8], at: usize, c: Connection)
 }
 
 // A record is stored at a place of a table's bytes; past the end none is.
+// (A test that the place is one of the table's: no number stands for none.)
 pub fn store_record(t: &mut [u8; 320], i: usize, c: Connection)
     ensures { t.new ≡ splice (40 * i) (record_bytes c) t.old }
 {

@@ -15,6 +15,7 @@ const CAPACITY_MAX: u16 = 8192;
 const FLAGS_MAX: u8 = 3;
 
 // The entry at a place, all of it within the image.
+// (Entry.place is a number of the whole image, so the part of twelve bytes alone would not do.)
 fn entry_in(image: &[u8], at: usize) -> Entry
     requires { at + 12 ≤ length image.now }
     ensures { result ≡ entry_at image.now at }
@@ -51,6 +52,7 @@ fn is_sound(e: Entry, least: u32, start: u32) -> bool
 }
 
 // Whether the first n entries of an image are sound, one behind the other, up to its end. (Inlined into a tick, or with the early return in place of `sound`, its loop takes one to three instructions more an entry.)
+// (n is read of the image once, by the caller, who tests that there is room for so many.)
 #[inline(never)]
 fn sound_entries(image: &[u8], n: usize) -> bool
     requires { (2 + 12 * n ≤ length image.now) × (length image.now ≤ 65536) }
