@@ -4,9 +4,12 @@ use native.Mathlib.Omega.{arith}
 use mathlib.Core.Path.{◌≡◌, refl, sym, ap, ◌∙◌}
 use mathlib.Core.List.{List, [], ◌∷◌, ◌++◌, append_assoc}
 use lib.ListN.{length, get_or, take, drop, set, length-drop, take-append-drop}
-use lib.Seq.{paste, take_at, drop_at, length-take-le, set_split, length-paste}
+use lib.Dec.{ltb}
+use lib.Seq.{paste, take_at, drop_at, length-take-le, set_split, set_out, length-paste}
+use mathlib.Core.Bool.{Bool, true, false}
+use borrow.Author.Tests.{ltb-true, ltb-false}
 use Rattle.octets.specs.Octets.{splice}
-use Rattle.octets.proofs.Splice.{splice_fits}
+use Rattle.octets.proofs.Splice.{splice_fits, splice_out}
 use Rattle.picks.proofs.Shift.{shift_down}
 use Rattle.protocol.specs.declared.Connection.{Connection}
 use Rattle.protocol.specs.ConnectionTable.{fresh}
@@ -49,7 +52,7 @@ pasted k n x t h g =
     rw (table_take n x g, splice_fits (40 * k) y (table_bytes t) f, e, table_take k t (omega arith), table_drop (k + n) t h, table_append (take k t ++ take n x) (drop (k + n) t), table_append (take k t) (take n x))
 
 -- one record over another
-pub placed : (i : ℕ) (c : Connection) (t : List Connection) → i < length t → splice (40 * i) (record_bytes c) (table_bytes t) ≡ table_bytes (set t i c)
+placed : (i : ℕ) (c : Connection) (t : List Connection) → i < length t → splice (40 * i) (record_bytes c) (table_bytes t) ≡ table_bytes (set t i c)
 unfolding table_bytes
 placed i c t h =
     let b = record_bytes c in
@@ -58,6 +61,16 @@ placed i c t h =
     let f : 40 * i + length b ≤ length (table_bytes t) = omega (arith, length_table t) in
     rw (splice_fits (40 * i) b (table_bytes t) f, e, table_take i t (omega arith), table_drop (suc i) t (omega arith), set_split t i c h, table_append (take i t) (c ∷ drop (suc i) t))
     (append_assoc (table_bytes (take i t)) b (table_bytes (drop (suc i) t)))
+
+-- the same at any place: past the end nothing is stored
+by_test : (i : ℕ) (c : Connection) (t : List Connection) (b : Bool) → ltb i (length t) ≡ b → splice (40 * i) (record_bytes c) (table_bytes t) ≡ table_bytes (set t i c)
+by_test i c t true e = placed i c t (ltb-true _ _ e)
+by_test i c t false e =
+    let h = ltb-false _ _ e in
+    splice_out (40 * i) (record_bytes c) (table_bytes t) (omega (arith, h, length_table t)) ∙ ap table_bytes (sym (set_out t i c h))
+
+pub placed_any : (i : ℕ) (c : Connection) (t : List Connection) → splice (40 * i) (record_bytes c) (table_bytes t) ≡ table_bytes (set t i c)
+placed_any i c t = by_test i c t (ltb i (length t)) refl
 
 -- a record put at a place, and one dropped
 pub inserted : (at n : ℕ) (c : Connection) (t : List Connection) → at ≤ n → n < length t → splice (40 * at) (record_bytes c) (splice (40 * at + 40) (take (40 * n - 40 * at) (drop (40 * at) (table_bytes t))) (table_bytes t)) ≡ table_bytes (put_in at n c t)

@@ -75,14 +75,11 @@ pub fn tidy(t: &mut [u8; 320])
 }
 
 // Another record at a place; past the end the records stay.
-// (A test that the place is one of the table's: no number stands for none.)
 pub fn replace(t: &mut [u8; 320], i: usize, c: Connection)
     ensures { t.new ≡ table_bytes (set (table_of t.old) i c) }
 {
     tidy(t);
-    if i < 8 {
-        record::store_record(t, i, c);
-    }
+    record::store_record(t, i, c);
 }
 
 // So many bytes of a table go from one place to another, as they were before. (copy_within goes byte by byte, and is slower than this copy.)
