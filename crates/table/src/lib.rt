@@ -1,11 +1,11 @@
 // The row of eight connection records, by value (server.rs has a BTreeMap of handlers, by client): its soundness, a client's place, who is due, and how a client joins and leaves.
 #![tactic(auto)]
 
-ghost use Rattle.std.specs.Prelude.{◌≡◌, true, false, not, ◌&&◌, [], ◌∷◌, ◌++◌, length, get_or, set, take, drop, suc, ◌≤◌, ◌<◌, eqb, IfSome};
+ghost use Rattle.std.specs.Prelude.{◌≡◌, true, false, not, ◌&&◌, length, get_or, set, ◌<◌, eqb, IfSome};
 ghost use Rattle.picks.specs.Pick.{pick, first, every};
 ghost use Rattle.protocol.specs.ConnectionTable.{unused_of, fresh, holds, place_of, record_of, update, is_known, join, release, sound_record, chosen, earliest, ordered, areas_once, sound_table};
 ghost use Rattle.connection.specs.Among.{is_gone};
-ghost use Rattle.table.specs.Row.{place_in, due_in, unused_place, seat_place, put_in, joined_row, dropped_at, drops_first};
+ghost use Rattle.table.specs.Row.{place_in, due_in, unused_place, seat_place, joined_row, dropped_at, drops_first};
 
 use protocol::{Connection, SdoClientInfo};
 
