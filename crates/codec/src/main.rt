@@ -21,6 +21,36 @@ const MAX_PAYLOAD: u16 = 2048;
 
 const MAX_BUFFER: u16 = 4096;
 
+// What an item asks for.
+#[derive(Clone, Copy)]
+enum Item {
+    HeaderDecode,
+    HeaderEncode,
+    CommandDecode,
+    CommandEncode,
+    NextNumber,
+}
+
+// A number that no item has.
+#[derive(Clone, Copy)]
+struct UnknownItem;
+
+impl TryFrom<u8> for Item {
+    type Error = UnknownItem;
+
+    // (here the format's numbers become items)
+    fn try_from(number: u8) -> Result<Self, UnknownItem> {
+        match number {
+            1 => Ok(Item::HeaderDecode),
+            2 => Ok(Item::HeaderEncode),
+            3 => Ok(Item::CommandDecode),
+            4 => Ok(Item::CommandEncode),
+            5 => Ok(Item::NextNumber),
+            _ => Err(UnknownItem),
+        }
+    }
+}
+
 // A length in an item. One above its limit counts as 0: no payload is waited for, and the item is refused.
 fn limited(n: u16, limit: u16) -> usize
     ensures { result ≤ limit }
@@ -29,14 +59,15 @@ fn limited(n: u16, limit: u16) -> usize
 }
 
 // How long the item at the start of these bytes is. Where they end before the bytes that tell it, the answer is still more than they are.
+// (no twin of items::length_of: the items of another format, which has other numbers, lengths and limits)
 fn length_of(s: &[u8]) -> usize {
-    match octets::byte_at(s, 0) {
-        1 => 2 + usize::from(octets::byte_at(s, 1)),
-        2 => 6,
-        3 => 3 + limited(octets::number_at(s, 1), MAX_COMMAND),
-        4 => 17 + limited(octets::number_at(s, 13), MAX_PAYLOAD),
-        5 => 2,
-        _ => 1,
+    match Item::try_from(octets::byte_at(s, 0)) {
+        Ok(Item::HeaderDecode) => 2 + usize::from(octets::byte_at(s, 1)),
+        Ok(Item::HeaderEncode) => 6,
+        Ok(Item::CommandDecode) => 3 + limited(octets::number_at(s, 1), MAX_COMMAND),
+        Ok(Item::CommandEncode) => 17 + limited(octets::number_at(s, 13), MAX_PAYLOAD),
+        Ok(Item::NextNumber) => 2,
+        Err(UnknownItem) => 1,
     }
 }
 
@@ -58,16 +89,22 @@ fn header_decode(item: &[u8], out: &mut impl Write) -> io::Result<()> {
     }
 }
 
+// The lowest bytes of a count.
+fn put_count(count: usize, width: usize, out: &mut impl Write) -> io::Result<()> {
+    out.write_all(octets::part(&(count as u64).to_le_bytes(), 0, width))
+}
+
 // What an encoding into a buffer answered: the count of written bytes, in width bytes, and the buffer; or that it is short, and whether it is as it was.
-fn encoding<const WIDTH: usize>(
-    written: Result<[u8; WIDTH], BufferTooShort>,
+fn encoding(
+    written: Result<usize, BufferTooShort>,
+    width: usize,
     buffer: &[u8],
     out: &mut impl Write,
 ) -> io::Result<()> {
     match written {
         Ok(count) => {
             out.write_all(&[0])?;
-            out.write_all(&count)?;
+            put_count(count, width, out)?;
             out.write_all(buffer)
         }
         Err(BufferTooShort) => {
@@ -92,21 +129,20 @@ fn header_encode(h: SequenceLayerHeader, n: u8, out: &mut impl Write) -> io::Res
     let mut space = [FILL; 255];
     let buffer = &mut space[..usize::from(n)];
     let written = sequence::serialize(h, buffer);
-    encoding(written.map(|n| [(n % 256) as u8]), buffer, out)
+    encoding(written, 1, buffer, out)
 }
 
 // Item 3, decoded: the command's fields, its total (0 without one), and its payload.
 fn command_decoded(c: SdoCommand, bytes: &[u8], out: &mut impl Write) -> io::Result<()> {
     let h = c.header;
     let payload = command::payload(h, bytes);
-    let length = (payload.len() % 65536) as u16;
     let flags = [0, h.transaction, u8::from(h.response), u8::from(h.aborted)];
     out.write_all(&flags)?;
     out.write_all(&[u8::from(h.segmentation), u8::from(h.id)])?;
     out.write_all(&h.size.to_le_bytes())?;
     out.write_all(&[u8::from(c.total.is_some())])?;
     out.write_all(&c.total.unwrap_or(0).to_le_bytes())?;
-    out.write_all(&length.to_le_bytes())?;
+    put_count(payload.len(), 2, out)?;
     out.write_all(payload)
 }
 
@@ -139,75 +175,58 @@ fn command_encode(c: SdoCommand, payload: &[u8], n: u16, out: &mut impl Write) -
     let mut space = [FILL; 4096];
     let buffer = &mut space[..usize::from(n.min(MAX_BUFFER))];
     let written = command::serialize(c, payload, buffer);
-    encoding(
-        written.map(|n| ((n % 65536) as u16).to_le_bytes()),
-        buffer,
-        out,
-    )
+    encoding(written, 2, buffer, out)
+}
+
+// The bytes of item 3, where their number is in its limit.
+fn command_bytes(item: &[u8]) -> Option<&[u8]> {
+    let n: u16 = octets::number_at(item, 1);
+    (n <= MAX_COMMAND).then_some(octets::part(item, 3, usize::from(n)))
+}
+
+// The payload and the buffer's length of item 4, where both are in their limits.
+fn encoding_of(item: &[u8]) -> Option<(&[u8], u16)> {
+    let length: u16 = octets::number_at(item, 13);
+    let n: u16 = octets::number_at(item, 15 + usize::from(length));
+    let fit = length <= MAX_PAYLOAD && n <= MAX_BUFFER;
+    fit.then_some((octets::part(item, 15, usize::from(length)), n))
 }
 
 // Plays an item, and answers whether it is one that is known.
 fn play(item: &[u8], out: &mut impl Write) -> io::Result<bool> {
-    match octets::byte_at(item, 0) {
-        1 => header_decode(item, out)?,
-        2 => {
-            let Some(h) = header_of(item) else {
-                return Ok(false);
-            };
-            header_encode(h, octets::byte_at(item, 5), out)?
-        }
-        3 => {
-            let n: u16 = octets::number_at(item, 1);
-            if MAX_COMMAND < n {
-                return Ok(false);
-            }
-            command_decode(octets::part(item, 3, usize::from(n)), out)?
-        }
-        4 => {
-            let length: u16 = octets::number_at(item, 13);
-            let n: u16 = octets::number_at(item, 15 + usize::from(length));
-            let Some(c) = command_of(item) else {
-                return Ok(false);
-            };
-            if MAX_PAYLOAD < length || MAX_BUFFER < n {
-                return Ok(false);
-            }
-            command_encode(c, octets::part(item, 15, usize::from(length)), n, out)?
-        }
-        5 => out.write_all(&[sequence::next_number(octets::byte_at(item, 1))])?,
-        _ => return Ok(false),
+    let Ok(kind) = Item::try_from(octets::byte_at(item, 0)) else {
+        return Ok(false);
+    };
+    match kind {
+        Item::HeaderDecode => header_decode(item, out)?,
+        Item::HeaderEncode => match header_of(item) {
+            Some(h) => header_encode(h, octets::byte_at(item, 5), out)?,
+            None => return Ok(false),
+        },
+        Item::CommandDecode => match command_bytes(item) {
+            Some(bytes) => command_decode(bytes, out)?,
+            None => return Ok(false),
+        },
+        Item::CommandEncode => match (command_of(item), encoding_of(item)) {
+            (Some(c), Some((payload, n))) => command_encode(c, payload, n, out)?,
+            _ => return Ok(false),
+        },
+        Item::NextNumber => out.write_all(&[sequence::next_number(octets::byte_at(item, 1))])?,
     }
     Ok(true)
 }
 
-// One turn: more is read, or an item is played. An unknown item ends the run.
-fn turn(
-    reader: &mut impl io::Read,
-    input: &mut [u8; INPUT],
-    out: &mut impl Write,
-    window: Window,
-) -> io::Result<Window> {
-    let bytes = input::unplayed(input, window);
-    let n = length_of(bytes);
-    if bytes.len() < n {
-        return Ok(input::refilled(reader, input, window));
-    }
-    let known = play(octets::part(bytes, 0, n), out)?;
-    Ok(input::passed(window, n, known))
-}
-
-// Plays the input as far as it goes, and answers where it ended. A loop has to end: it counts its turns up to a number that no run reaches.
+// Plays the input as far as it goes, and answers where it ended.
 fn played(rt: &(impl Input + Print + AllocGlobal)) -> io::Result<Window> {
     let mut input = [0; INPUT];
     let mut reader = rt.reader();
     let mut out = BufWriter::new(rt.alloc(), io::writer(rt))?;
-    let mut window = input::begun();
-    for _ in 0..u64::MAX {
-        window = turn(&mut reader, &mut input, &mut out, window)?;
-        if !window.going {
-            break;
-        }
-    }
+    let window = input::played(
+        &mut reader,
+        &mut input,
+        length_of,
+        |item| play(item, &mut out),
+    )?;
     out.flush()?;
     Ok(window)
 }

@@ -1,9 +1,11 @@
 // The input that a script is read from: a buffer of which a part is not played yet.
 #![tactic(auto)]
 
-ghost use Rattle.std.specs.Prelude.{◌≡◌, ◌+◌, ◌-◌, ◌≤◌, ◌++◌, length, take, drop};
+ghost use Rattle.std.specs.Prelude.{◌≡◌, ◌+◌, ◌-◌, ◌≤◌, ◌++◌, length, take, drop, Ok, IfOk};
+ghost use Rattle.std.specs.Fn.{FnReturnsAt, CalledAt};
 ghost use Rattle.std.specs.Io.KnownBytes.{Consumes};
 ghost use Rattle.input.specs.Runs.{at_start, unplayed_of, behind, Read, refilled_bytes, refilled_window};
+ghost use Rattle.input.specs.Turns.{run, Turns};
 
 use std::io;
 
@@ -87,4 +89,36 @@ pub fn refilled<R: io::Read>(reader: &mut R, input: &mut [u8; INPUT], w: Window)
         going: 0 < got,
         ..w
     }
+}
+
+// Plays the items of the input as far as it goes, and answers where that ends: each turn reads more, or plays an item, where a play answers whether it is one that is known. A loop has to end: it counts its turns up to a number that no run reaches.
+pub fn played<R, L, P>(
+    reader: &mut R,
+    input: &mut [u8; INPUT],
+    length: L,
+    mut play: P,
+) -> io::Result<Window>
+where
+    R: io::Read,
+    L: Fn(&[u8]) -> usize,
+    P: FnMut(&[u8]) -> io::Result<bool>,
+    requires length { L.IsAlwaysCallable length }
+    requires play { P.IsAlwaysCallable play }
+    ensures { IfOk result (λ w. (last : P) × Turns (FnReturnsAt L.Fn length) (λ p item known q. CalledAt P.FnMut p item (Ok known) q) (run play (R.remaining reader.old) input.old at_start) (run last (R.remaining reader.new) input.new w)) }
+{
+    let mut window = begun();
+    for _ in 0..u64::MAX {
+        if !window.going {
+            break;
+        }
+        let bytes = unplayed(input, window);
+        let n = length(bytes);
+        if bytes.len() < n {
+            window = refilled(reader, input, window);
+        } else {
+            let known = play(octets::part(bytes, 0, n))?;
+            window = passed(window, n, known);
+        }
+    }
+    Ok(window)
 }

@@ -8,69 +8,38 @@ use script::{ANSWER, Done, IMAGE, LENT_AREA, Lent};
 use std::io;
 use std::io::{BufWriter, Write};
 
-// How far a run is, and what is lent.
-#[derive(Clone, Copy)]
-struct Run {
-    window: Window,
-    lent: Lent,
-}
-
-// One turn: more is read, or an item is played. An unknown item ends the run.
-fn turn(
-    reader: &mut impl io::Read,
-    input: &mut [u8; INPUT],
+// Plays an item on what is lent, writes a call's part of the transcript, and answers whether the item is one that is known.
+fn play(
+    item: &[u8],
+    lent: &mut Lent,
     area: &mut [u8; LENT_AREA],
     image: &mut [u8; IMAGE],
     out: &mut impl Write,
-    run: Run,
-) -> io::Result<Run> {
-    let bytes = input::unplayed(input, run.window);
-    let n = items::length_of(bytes);
-    if bytes.len() < n {
-        return Ok(Run {
-            window: input::refilled(reader, input, run.window),
-            ..run
-        });
-    }
-    let item = octets::part(bytes, 0, n);
+) -> io::Result<bool> {
     let mut answer = [0; ANSWER];
-    let played = script::play(item, run.lent, area, image, &mut answer);
-    if let Done::Calls(told) = played.done {
-        transcript::put_entry(told, played.lent, &answer, area, image, out)?;
+    let played = script::play(item, *lent, area, image, &mut answer);
+    *lent = played.lent;
+    match played.done {
+        Done::Unknown => return Ok(false),
+        Done::Lends => {}
+        Done::Calls(told) => transcript::put_entry(told, played.lent, &answer, area, image, out)?,
     }
-    let known = !matches!(played.done, Done::Unknown);
-    Ok(Run {
-        window: input::passed(run.window, n, known),
-        lent: played.lent,
-    })
+    Ok(true)
 }
 
-// Plays the input as far as it goes, and answers where it ended. A loop has to end: it counts its turns up to a number that no run reaches.
+// Plays the input as far as it goes, and answers where it ended.
 fn played(rt: &(impl Input + Print + AllocGlobal)) -> io::Result<Window> {
     let mut input = [0u8; INPUT];
     let mut area = [0u8; LENT_AREA];
     let mut image = [0u8; IMAGE];
     let mut reader = rt.reader();
     let mut out = BufWriter::with_capacity(rt.alloc(), 65536, io::writer(rt))?;
-    let mut run = Run {
-        window: input::begun(),
-        lent: script::begun(),
-    };
-    for _ in 0..u64::MAX {
-        run = turn(
-            &mut reader,
-            &mut input,
-            &mut area,
-            &mut image,
-            &mut out,
-            run,
-        )?;
-        if !run.window.going {
-            break;
-        }
-    }
+    let mut lent = script::begun();
+    let window = input::played(&mut reader, &mut input, items::length_of, |item| {
+        play(item, &mut lent, &mut area, &mut image, &mut out)
+    })?;
     out.flush()?;
-    Ok(run.window)
+    Ok(window)
 }
 
 // The program. What is not played in the end begins with an item that is cut short or unknown.
