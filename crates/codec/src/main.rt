@@ -133,6 +133,7 @@ fn header_encode(h: SequenceLayerHeader, n: u8, out: &mut impl Write) -> io::Res
 }
 
 // Item 3, decoded: the command's fields, its total (0 without one), and its payload.
+// (the transcript's bytes: the card's row of the same fields has no length, no flag for the total, and another place for it)
 fn command_decoded(c: SdoCommand, bytes: &[u8], out: &mut impl Write) -> io::Result<()> {
     let h = c.header;
     let payload = command::payload(h, bytes);
@@ -232,6 +233,7 @@ fn played(rt: &(impl Input + Print + AllocGlobal)) -> io::Result<Window> {
 }
 
 // The program. What is not played in the end begins with an item that is cut short or unknown.
+// (replay ends alike: a shared end would be a public function of which no contract can say what it writes to standard error)
 fn main(rt: HostRuntime) -> io::Result<()> {
     let Ok(window) = played(&rt) else {
         return eprintln!(rt; "codec: the transcript cannot be written");

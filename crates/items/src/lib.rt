@@ -30,6 +30,7 @@ impl TryFrom<u8> for Item {
 
     ghost try_from_gives = { λ number result. result ≡ item_of number };
 
+    // (here the format's numbers become items)
     #[tactic(auto, unfolding(crate::specs::Kinds::item_of, crate::specs::Items::by_kind, picks::specs::Pick::pick))]
     fn try_from(number: u8) -> Result<Self, UnknownItem> {
         match number {
@@ -46,6 +47,7 @@ impl TryFrom<u8> for Item {
 }
 
 // The image's length in item 4. One above its limit counts as 0: no image is waited for, and the item is unknown.
+#[tactic(auto, unfolding(picks::specs::Pick::pick))]
 fn image_length(item: &[u8]) -> usize
     ensures value { result ≡ pick (is_image item.now) (number_at 4 1 item.now) 0 }
     ensures upper_bound { result ≤ 131072 }
@@ -58,6 +60,8 @@ fn image_length(item: &[u8]) -> usize
 }
 
 // How long the item at the start of these bytes is. Where they end before the bytes that tell it, the answer is still more than they are.
+// (the format says how long each item is, and the codecs' items have other lengths)
+#[tactic(auto, unfolding(crate::specs::Items::length_of, crate::specs::Items::by_kind, crate::specs::Kinds::item_of, picks::specs::Pick::pick))]
 pub fn length_of(s: &[u8]) -> usize
     ensures { result ≡ length_of s.now }
 {
@@ -88,6 +92,7 @@ pub fn request_of(item: &[u8]) -> &[u8]
 }
 
 // The clock of item 1 or 2.
+#[tactic(auto, unfolding(crate::specs::Items::by_kind, crate::specs::Kinds::item_of, picks::specs::Pick::pick))]
 pub fn clock_of(item: &[u8]) -> u64
     ensures { result ≡ clock_in item.now }
 {

@@ -6,102 +6,39 @@ mod sheet;
 mod verdict;
 
 use crate::sheet::{Call, Sheet};
-use crate::verdict::Break;
+use crate::verdict::{Break, End};
 use input::{INPUT, Window};
 use marking::Exercise;
-use protocol::Connection;
-use script::{ANSWER, Done, IMAGE, LENT_AREA, Lent, Played};
-use std::io;
+use script::{ANSWER, Done, IMAGE, LENT_AREA, Lent};
+use std::{fmt, io};
 
-// How far a run is, what is lent, and the sheet so far.
-#[derive(Clone, Copy)]
-struct Run {
-    window: Window,
-    lent: Lent,
-    sheet: Sheet,
-}
-
-// The sheet after an item, with the table before it. An item that is not known leaves the sheet as it is.
-fn step(
+// Plays an item on what is lent, shows it on the sheet, and answers whether it is one that is known.
+fn play(
     rt: &impl Print,
-    s: Sheet,
-    e: Exercise,
     item: &[u8],
-    before: [Connection; 8],
-    played: Played,
-    answer: &[u8; ANSWER],
-) -> io::Result<Sheet> {
+    lent: &mut Lent,
+    area: &mut [u8; LENT_AREA],
+    image: &mut [u8; IMAGE],
+    sheet: &mut Sheet,
+) -> io::Result<bool> {
+    let before = lent.table;
+    let mut answer = [0; ANSWER];
+    let played = script::play(item, *lent, area, image, &mut answer);
+    *lent = played.lent;
     match played.done {
-        Done::Unknown => Ok(s),
-        Done::Lends => sheet::lend_step(rt, s, item),
+        Done::Unknown => return Ok(false),
+        Done::Lends => sheet.lend_step(rt, item)?,
         Done::Calls(told) => {
-            let after = played.lent.table;
             let call = Call {
                 item,
                 before,
-                after,
-                answer,
+                after: lent.table,
+                answer: &answer,
             };
-            sheet::call_step(rt, s, e, call, told)
+            sheet.call_step(rt, call, told)?
         }
     }
-}
-
-// One turn: more is read, or an item is played and shown. An unknown item ends the run.
-fn turn(
-    rt: &impl Print,
-    reader: &mut impl io::Read,
-    input: &mut [u8; INPUT],
-    area: &mut [u8; LENT_AREA],
-    image: &mut [u8; IMAGE],
-    e: Exercise,
-    run: Run,
-) -> io::Result<Run> {
-    let Run {
-        window,
-        lent,
-        sheet,
-    } = run;
-    let bytes = input::unplayed(input, window);
-    let n = items::length_of(bytes);
-    if bytes.len() < n {
-        return Ok(Run {
-            window: input::refilled(reader, input, window),
-            ..run
-        });
-    }
-    let item = octets::part(bytes, 0, n);
-    let mut answer = [0; ANSWER];
-    let played = script::play(item, lent, area, image, &mut answer);
-    let known = !matches!(played.done, Done::Unknown);
-    Ok(Run {
-        window: input::passed(window, n, known),
-        lent: played.lent,
-        sheet: step(rt, sheet, e, item, lent.table, played, &answer)?,
-    })
-}
-
-// Plays the input as far as it goes. A loop has to end: it counts its turns up to a number that no run reaches.
-fn played(
-    rt: &impl Print,
-    reader: &mut impl io::Read,
-    input: &mut [u8; INPUT],
-    area: &mut [u8; LENT_AREA],
-    image: &mut [u8; IMAGE],
-    e: Exercise,
-) -> io::Result<Run> {
-    let mut run = Run {
-        window: input::begun(),
-        lent: script::begun(),
-        sheet: sheet::blank(),
-    };
-    for _ in 0..u64::MAX {
-        run = turn(rt, reader, input, area, image, e, run)?;
-        if !run.window.going {
-            return Ok(run);
-        }
-    }
-    Ok(run)
+    Ok(true)
 }
 
 // Where the recording ends, if it is not whole: in the middle of an item, or at one that is unknown.
@@ -117,12 +54,21 @@ fn ended(input: &[u8; INPUT], window: Window) -> Option<Break> {
 }
 
 // What is marked, and how to read the steps.
-fn say_title(rt: &impl Print, e: Exercise) -> io::Result<()> {
-    let object = sheet::object_of(e);
-    println!(rt; "MARKED SHEET")?;
-    println!(rt; "Exercise: read {object}, to its end: {} bytes.", e.length)?;
-    print!(rt; "Each step is what a client sent and what the controller answered: ")?;
-    println!(rt; "in words, decoded, and as bytes in hex.\n")
+#[derive(Clone, Copy)]
+struct Title(Exercise);
+
+impl fmt::Display for Title {
+    fn fmt<W: fmt::Write>(&self, f: &mut fmt::Formatter<W>) -> fmt::Result {
+        let object = sheet::object_of(self.0);
+        f.write_str("MARKED SHEET\n")?;
+        writeln!(
+            f,
+            "Exercise: read {object}, to its end: {} bytes.",
+            self.0.length
+        )?;
+        f.write_str("Each step is what a client sent and what the controller answered: ")?;
+        f.write_str("in words, decoded, and as bytes in hex.\n\n")
+    }
 }
 
 // The end of the last line, where all that stands before it was written. Where something cannot be written, the sheet is not whole.
@@ -140,9 +86,20 @@ fn sheet_of(rt: &(impl Input + Print), e: Exercise) -> io::Result<()> {
     let mut area = [0u8; LENT_AREA];
     let mut image = [0u8; IMAGE];
     let mut reader = rt.reader();
-    say_title(rt, e)?;
-    let run = played(rt, &mut reader, &mut input, &mut area, &mut image, e)?;
-    verdict::say_end(rt, run.sheet, e, ended(&input, run.window))
+    let mut lent = script::begun();
+    let mut sheet = Sheet::blank(e);
+    print!(rt; "{}", Title(e))?;
+    let window = input::played(&mut reader, &mut input, items::length_of, |item| {
+        play(rt, item, &mut lent, &mut area, &mut image, &mut sheet)
+    })?;
+    let ended = ended(&input, window);
+    print!(rt;
+        "{}",
+        End {
+            sheet: &sheet,
+            ended
+        }
+    )
 }
 
 // Marks the recording on standard input.

@@ -2,7 +2,7 @@
 use crate::sheet;
 use crate::sheet::{Finish, Sheet};
 use marking::{Exercise, Mark, Marks};
-use std::{fmt, io};
+use std::fmt;
 use wording::{Abort, Client, Code, Refused};
 
 impl fmt::Display for Finish {
@@ -97,54 +97,60 @@ impl fmt::Display for Reason {
     }
 }
 
+// The end of a sheet, but for the end of its last line, with where the recording ends, if it is not whole.
+#[derive(Clone, Copy)]
+pub struct End<'a> {
+    pub sheet: &'a Sheet,
+    pub ended: Option<Break>,
+}
+
 // What was played, and each finish that is kept.
-fn say_counts(rt: &impl Print, s: Sheet, e: Exercise) -> io::Result<()> {
-    print!(rt; "{} calls. Not shown: ", s.calls)?;
-    print!(rt;
+fn write_counts<W: fmt::Write>(f: &mut fmt::Formatter<W>, sheet: &Sheet) -> fmt::Result {
+    write!(f, "{} calls. Not shown: ", sheet.calls)?;
+    write!(
+        f,
         "{} of the controller's own clock that sent nothing, and ",
-        s.silent
+        sheet.silent
     )?;
-    println!(rt; "{} that asked for the next deadline.", s.queries)?;
-    println!(rt;
-        "Finished readings of {}: {}",
-        sheet::object_of(e),
-        s.finished
-    )?;
-    for finish in s.finishes.iter().flatten() {
-        println!(rt; "  {finish}")?;
+    writeln!(f, "{} that asked for the next deadline.", sheet.queries)?;
+    let object = sheet::object_of(sheet.exercise);
+    writeln!(f, "Finished readings of {object}: {}", sheet.finished)?;
+    for finish in sheet.finishes.iter().flatten() {
+        writeln!(f, "  {finish}")?;
     }
-    if 8 < s.finished {
-        println!(rt; "  and more")?;
+    if 8 < sheet.finished {
+        f.write_str("  and more\n")?;
     }
     Ok(())
 }
 
 // The mark of a recording in which no reading passed. One that is not whole shows no more than what came before.
-fn say_failed(rt: &impl Print, s: Sheet, e: Exercise, ended: Option<Break>) -> io::Result<()> {
-    print!(rt; "MARK: FAILED\nReason: ")?;
-    if let Some(ended) = ended {
-        print!(rt; "{ended}; up to there: ")?;
+fn write_failed<W: fmt::Write>(f: &mut fmt::Formatter<W>, end: &End) -> fmt::Result {
+    f.write_str("MARK: FAILED\nReason: ")?;
+    if let Some(ended) = end.ended {
+        write!(f, "{ended}; up to there: ")?;
     }
-    if s.calls == 0 {
-        return print!(rt; "the recording has no call in it.");
+    if end.sheet.calls == 0 {
+        return f.write_str("the recording has no call in it.");
     }
-    let marks = s.book.marks;
+    let marks = end.sheet.book.marks;
     let reason = Reason {
-        exercise: e,
+        exercise: end.sheet.exercise,
         marks,
         mark: marking::mark_of(marks),
     };
-    print!(rt; "{reason}")
+    write!(f, "{reason}")
 }
 
-// The end of the sheet, but for the end of its last line.
-pub fn say_end(rt: &impl Print, s: Sheet, e: Exercise, ended: Option<Break>) -> io::Result<()> {
-    say_counts(rt, s, e)?;
-    let Some(finish) = s.passed else {
-        return say_failed(rt, s, e, ended);
-    };
-    if let Some(ended) = ended {
-        println!(rt; "Note: {ended}.")?;
+impl fmt::Display for End<'_> {
+    fn fmt<W: fmt::Write>(&self, f: &mut fmt::Formatter<W>) -> fmt::Result {
+        write_counts(f, self.sheet)?;
+        let Some(finish) = self.sheet.passed else {
+            return write_failed(f, self);
+        };
+        if let Some(ended) = self.ended {
+            writeln!(f, "Note: {ended}.")?;
+        }
+        write!(f, "MARK: PASSED\nThe object was read to its end: {finish}")
     }
-    print!(rt; "MARK: PASSED\nThe object was read to its end: {finish}")
 }

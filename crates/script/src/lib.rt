@@ -30,6 +30,7 @@ const LENT_RECORDS: u8 = 9;
 const RECORDS: u8 = 8;
 
 // How much of each buffer is lent from here on, how many records, and the table.
+// (lengths of parts of the program's fixed buffers, each of which is borrowed anew by each call)
 #[derive(Clone, Copy)]
 pub struct Lent {
     pub answer: usize,
@@ -54,68 +55,9 @@ pub struct Played {
     pub lent: Lent,
 }
 
-// A call, with the table that it leaves.
-fn calls(told: Told, lent: Lent, table: [Connection; 8]) -> Played
-    ensures { (did result ≡ calls (said told) lent table) × (length table ≡ 8) }
-{
-    Played {
-        done: Done::Calls(told),
-        lent: Lent { table, ..lent },
-    }
-}
-
-// An item that there is not.
-fn unknown(lent: Lent) -> Played
-    ensures { did result ≡ unknown lent }
-{
-    Played {
-        done: Done::Unknown,
-        lent,
-    }
-}
-
-// An item that lends something.
-fn lends(lent: Lent) -> Played
-    ensures { did result ≡ lends lent }
-{
-    Played {
-        done: Done::Lends,
-        lent,
-    }
-}
-
-// Item 4: an image is lent.
-#[tactic(auto, unfolding(crate::specs::Playing::image_lent, crate::specs::Playing::image_stored, picks::specs::Pick::pick))]
-fn lend_image(item: &[u8], lent: Lent, image: &mut [u8; IMAGE]) -> Played
-    ensures { (did result ≡ image_lent item.now lent) × (image.new ≡ image_stored item.now image.old) }
-{
-    let n: u32 = octets::number_at(item, 1);
-    if 131072 < n {
-        return unknown(lent);
-    }
-    octets::copy_at(image, 0, octets::part(item, 5, n as usize));
-    lends(Lent {
-        image: n as usize,
-        ..lent
-    })
-}
-
-// Item 5: a table is lent.
-#[tactic(auto, unfolding(crate::specs::Playing::table_lent, picks::specs::Pick::pick))]
-fn lend_table(item: &[u8], lent: Lent) -> Played
-    ensures { did result ≡ table_lent item.now lent }
-{
-    let s = octets::rest(item, 1);
-    if !record::is_table(s) {
-        return unknown(lent);
-    }
-    lends(Lent {
-        table: record::table_of(s),
-        ..lent
-    })
-}
-
 // Item 6: area byte i becomes (b + 7 i + i / 256) mod 256.
+// (a byte's value follows from its place: an iterator would count the places too)
+#[tactic(auto, using(crate::proofs::Buffers::area_none, crate::proofs::Buffers::area_more))]
 fn fill_area(b: u8, area: &mut [u8])
     requires { 65536 ≤ length area.old }
     ensures { area.new ≡ filled b area.old }
@@ -124,26 +66,6 @@ fn fill_area(b: u8, area: &mut [u8])
     for i in 0..AREA {
         area[i] = ((first + 7 * i + i / 256) % 256) as u8;
     }
-}
-
-// Item 7: how much is lent.
-#[tactic(auto, unfolding(crate::specs::Playing::lengths_lent, picks::specs::Pick::pick))]
-fn lend_lengths(item: &[u8], lent: Lent) -> Played
-    ensures { did result ≡ lengths_lent item.now lent }
-{
-    let answer: u32 = octets::number_at(item, 1);
-    let area: u32 = octets::number_at(item, 5);
-    let records = octets::byte_at(item, 9);
-    let fit = (answer <= 1600) & (area <= 65600) & (records <= LENT_RECORDS);
-    if !fit {
-        return unknown(lent);
-    }
-    lends(Lent {
-        answer: answer as usize,
-        area: area as usize,
-        records,
-        ..lent
-    })
 }
 
 // A call finds the answer buffer filled, and zeros past the area's own length.
@@ -162,115 +84,207 @@ fn records_of(table: [Connection; 8]) -> u8
     RECORDS
 }
 
-// A request on what is lent of the buffers. A table of another length than the server's is refused here: the server cannot be given one.
-fn call_request(
-    item: &[u8],
-    lent: Lent,
-    area: &mut [u8],
-    image: &mut [u8],
-    answer: &mut [u8],
-) -> Played
-    ensures { left (did result) area.new image.new answer.new ≡ request_on item.now lent area.old image.old answer.old }
-{
-    let row = lent.table;
-    if lent.records != records_of(row) {
-        return calls(Told::Request(Err(Refusal::Lent)), lent, row);
+impl Lent {
+    // A call, with the table that it leaves.
+    fn calls(self, told: Told, table: [Connection; 8]) -> Played
+        ensures { (did result ≡ calls (said told) self table) × (length table ≡ 8) }
+    {
+        Played {
+            done: Done::Calls(told),
+            lent: Lent { table, ..self },
+        }
     }
-    let client = items::client_of(item);
-    let clock = items::clock_of(item);
-    let request = items::request_of(item);
-    let a = lent.area.min(area.len());
-    let b = lent.image.min(image.len());
-    let c = lent.answer.min(answer.len());
-    let done = owned::handle_request(
-        row,
-        &mut area[..a],
-        &mut image[..b],
-        &mut answer[..c],
-        client,
-        clock,
-        request,
-    );
-    calls(Told::Request(done.outcome), lent, done.table)
-}
 
-// A tick on what is lent of the buffers.
-fn call_tick<'a>(
-    item: &[u8],
-    lent: Lent,
-    area: &'a [u8],
-    image: &'a [u8],
-    answer: &mut [u8],
-) -> Played
-    ensures { left (did result) area.now image.now answer.new ≡ tick_on item.now lent area.now image.now answer.old }
-{
-    let row = lent.table;
-    if lent.records != records_of(row) {
-        return calls(Told::Tick(Err(Refusal::Lent)), lent, row);
+    // An item that there is not.
+    fn unknown(self) -> Played
+        ensures { did result ≡ unknown self }
+    {
+        Played {
+            done: Done::Unknown,
+            lent: self,
+        }
     }
-    let clock = items::clock_of(item);
-    let c = lent.answer.min(answer.len());
-    let done = owned::tick(
-        row,
-        octets::part(area, 0, lent.area),
-        octets::part(image, 0, lent.image),
-        &mut answer[..c],
-        clock,
-    );
-    calls(Told::Tick(done.outcome), lent, done.table)
-}
 
-// A deadline query on the table that is lent.
-fn call_query(lent: Lent) -> Played
-    ensures { did result ≡ query_on lent }
-{
-    let row = lent.table;
-    if lent.records != records_of(row) {
-        return calls(Told::Query(Err(Refusal::Lent)), lent, row);
+    // An item that lends something.
+    fn lends(self) -> Played
+        ensures { did result ≡ lends self }
+    {
+        Played {
+            done: Done::Lends,
+            lent: self,
+        }
     }
-    calls(Told::Query(owned::next_action_time(row)), lent, row)
-}
 
-// Item 1: a request. A client of a kind that there is not is unknown.
-fn play_request(
-    item: &[u8],
-    lent: Lent,
-    area: &mut [u8; LENT_AREA],
-    image: &mut [u8; IMAGE],
-    answer: &mut [u8; ANSWER],
-) -> Played
-    ensures { left (did result) area.new image.new answer.new ≡ request_played item.now lent area.old image.old answer.old }
-{
-    if clients::is_client(octets::rest(item, 1)) {
+    // Item 4: an image is lent.
+    #[tactic(auto, unfolding(crate::specs::Playing::image_lent, crate::specs::Playing::image_stored, picks::specs::Pick::pick))]
+    fn lend_image(self, item: &[u8], image: &mut [u8; IMAGE]) -> Played
+        ensures { (did result ≡ image_lent item.now self) × (image.new ≡ image_stored item.now image.old) }
+    {
+        let n: u32 = octets::number_at(item, 1);
+        if 131072 < n {
+            return self.unknown();
+        }
+        octets::copy_at(image, 0, octets::part(item, 5, n as usize));
+        Lent {
+            image: n as usize,
+            ..self
+        }
+        .lends()
+    }
+
+    // Item 5: a table is lent.
+    #[tactic(auto, unfolding(crate::specs::Playing::table_lent, picks::specs::Pick::pick))]
+    fn lend_table(self, item: &[u8]) -> Played
+        ensures { did result ≡ table_lent item.now self }
+    {
+        let s = octets::rest(item, 1);
+        if !record::is_table(s) {
+            return self.unknown();
+        }
+        Lent {
+            table: record::table_of(s),
+            ..self
+        }
+        .lends()
+    }
+
+    // Item 7: how much is lent.
+    #[tactic(auto, unfolding(crate::specs::Playing::lengths_lent, picks::specs::Pick::pick))]
+    fn lend_lengths(self, item: &[u8]) -> Played
+        ensures { did result ≡ lengths_lent item.now self }
+    {
+        let answer: u32 = octets::number_at(item, 1);
+        let area: u32 = octets::number_at(item, 5);
+        let records = octets::byte_at(item, 9);
+        let fit = (answer <= 1600) & (area <= 65600) & (records <= LENT_RECORDS);
+        if !fit {
+            return self.unknown();
+        }
+        Lent {
+            answer: answer as usize,
+            area: area as usize,
+            records,
+            ..self
+        }
+        .lends()
+    }
+
+    // A request on what is lent of the buffers. A table of another length than the server's is refused here: the server cannot be given one.
+    // (each of the three calls tests the records itself: who lends the buffers to a closure does not know what its call left in them)
+    // (area, image and answer are the caller's own buffers, which document 01 lends to a call one by one)
+    fn call_request(
+        self,
+        item: &[u8],
+        area: &mut [u8],
+        image: &mut [u8],
+        answer: &mut [u8],
+    ) -> Played
+        ensures { left (did result) area.new image.new answer.new ≡ request_on item.now self area.old image.old answer.old }
+    {
+        let row = self.table;
+        if self.records != records_of(row) {
+            return self.calls(Told::Request(Err(Refusal::Lent)), row);
+        }
+        let client = items::client_of(item);
+        let clock = items::clock_of(item);
+        let request = items::request_of(item);
+        let a = self.area.min(area.len());
+        let b = self.image.min(image.len());
+        let c = self.answer.min(answer.len());
+        let done = owned::handle_request(
+            row,
+            &mut area[..a],
+            &mut image[..b],
+            &mut answer[..c],
+            client,
+            clock,
+            request,
+        );
+        self.calls(Told::Request(done.outcome), done.table)
+    }
+
+    // A tick on what is lent of the buffers.
+    fn call_tick<'a>(
+        self,
+        item: &[u8],
+        area: &'a [u8],
+        image: &'a [u8],
+        answer: &mut [u8],
+    ) -> Played
+        ensures { left (did result) area.now image.now answer.new ≡ tick_on item.now self area.now image.now answer.old }
+    {
+        let row = self.table;
+        if self.records != records_of(row) {
+            return self.calls(Told::Tick(Err(Refusal::Lent)), row);
+        }
+        let clock = items::clock_of(item);
+        let c = self.answer.min(answer.len());
+        let done = owned::tick(
+            row,
+            octets::part(area, 0, self.area),
+            octets::part(image, 0, self.image),
+            &mut answer[..c],
+            clock,
+        );
+        self.calls(Told::Tick(done.outcome), done.table)
+    }
+
+    // A deadline query on the table that is lent.
+    #[tactic(auto, using(crate::proofs::Through::query_other))]
+    fn call_query(self) -> Played
+        ensures { did result ≡ query_on self }
+    {
+        let row = self.table;
+        if self.records != records_of(row) {
+            return self.calls(Told::Query(Err(Refusal::Lent)), row);
+        }
+        self.calls(Told::Query(owned::next_action_time(row)), row)
+    }
+
+    // Item 1: a request. A client of a kind that there is not is unknown.
+    // (is_client asks of bytes whether a client stands there, and compares no kind)
+    #[tactic(auto, unfolding(crate::specs::Playing::request_played, picks::specs::Pick::pick))]
+    fn play_request(
+        self,
+        item: &[u8],
+        area: &mut [u8; LENT_AREA],
+        image: &mut [u8; IMAGE],
+        answer: &mut [u8; ANSWER],
+    ) -> Played
+        ensures { left (did result) area.new image.new answer.new ≡ request_played item.now self area.old image.old answer.old }
+    {
+        if clients::is_client(octets::rest(item, 1)) {
+            ready(area, answer);
+            return self.call_request(item, area, image, answer);
+        }
+        self.unknown()
+    }
+
+    // Item 2: a tick.
+    fn play_tick(
+        self,
+        item: &[u8],
+        area: &mut [u8; LENT_AREA],
+        image: &[u8; IMAGE],
+        answer: &mut [u8; ANSWER],
+    ) -> Played
+        ensures { left (did result) area.new image.now answer.new ≡ tick_on item.now self (lent_area area.old) image.now blank }
+    {
         ready(area, answer);
-        return call_request(item, lent, area, image, answer);
+        self.call_tick(item, area, image, answer)
     }
-    unknown(lent)
-}
 
-// Item 2: a tick.
-fn play_tick(
-    item: &[u8],
-    lent: Lent,
-    area: &mut [u8; LENT_AREA],
-    image: &[u8; IMAGE],
-    answer: &mut [u8; ANSWER],
-) -> Played
-    ensures { left (did result) area.new image.now answer.new ≡ tick_on item.now lent (lent_area area.old) image.now blank }
-{
-    ready(area, answer);
-    call_tick(item, lent, area, image, answer)
-}
-
-// Item 3: a deadline query.
-fn play_query(lent: Lent, area: &mut [u8; LENT_AREA], answer: &mut [u8; ANSWER]) -> Played
-    ensures { (did result ≡ query_on lent) × (area.new ≡ lent_area area.old) × (answer.new ≡ blank) }
-{
-    ready(area, answer);
-    call_query(lent)
+    // Item 3: a deadline query.
+    fn play_query(self, area: &mut [u8; LENT_AREA], answer: &mut [u8; ANSWER]) -> Played
+        ensures { (did result ≡ query_on self) × (area.new ≡ lent_area area.old) × (answer.new ≡ blank) }
+    {
+        ready(area, answer);
+        self.call_query()
+    }
 }
 
 // Plays an item: it lends something, or a call answers into the buffer.
+#[tactic(auto, unfolding(crate::specs::Playing::play_of, items::specs::Items::by_kind, items::specs::Kinds::item_of, picks::specs::Pick::pick))]
 pub fn play(
     item: &[u8],
     lent: Lent,
@@ -281,17 +295,17 @@ pub fn play(
     ensures { left (did result) area.new image.new answer.new ≡ play_of item.now lent area.old image.old answer.old }
 {
     match Item::try_from(octets::byte_at(item, 0)) {
-        Ok(Item::Request) => play_request(item, lent, area, image, answer),
-        Ok(Item::Tick) => play_tick(item, lent, area, image, answer),
-        Ok(Item::Query) => play_query(lent, area, answer),
-        Ok(Item::Image) => lend_image(item, lent, image),
-        Ok(Item::Table) => lend_table(item, lent),
+        Ok(Item::Request) => lent.play_request(item, area, image, answer),
+        Ok(Item::Tick) => lent.play_tick(item, area, image, answer),
+        Ok(Item::Query) => lent.play_query(area, answer),
+        Ok(Item::Image) => lent.lend_image(item, image),
+        Ok(Item::Table) => lent.lend_table(item),
         Ok(Item::Area) => {
             fill_area(octets::byte_at(item, 1), area);
-            lends(lent)
+            lent.lends()
         }
-        Ok(Item::Lengths) => lend_lengths(item, lent),
-        Err(UnknownItem(_)) => unknown(lent),
+        Ok(Item::Lengths) => lent.lend_lengths(item),
+        Err(UnknownItem(_)) => lent.unknown(),
     }
 }
 
