@@ -2,7 +2,7 @@
 #![tactic(auto)]
 
 ghost use Rattle.std.specs.Prelude.{◌≡◌};
-ghost use Rattle.marking.specs.Marks.{asks_of, last_event, reading_event, piece_event, denial_event, denied, with_piece, with_finish, event_marks, marks_after, answered_marks, refused_marks, unmarked_of, denial_mark, unfinished_mark, mark_of, empty_book, anew_book, opens_in, noted_of, answered_book, refused_book};
+ghost use Rattle.marking.specs.Marks.{asks_of, last_event, reading_event, piece_event, denial_event, denied, with_piece, with_finish, event_marks, marks_after, answered_marks, refused_marks, unmarked_of, denial_mark, unfinished_mark, mark_of, empty_book, anew_book, opens_in, answered_book, refused_book};
 
 use protocol::{ReceiveConnState, SdoClientInfo, SendConnState};
 use reading::frame::Frame;
@@ -17,6 +17,7 @@ pub struct Exercise {
 }
 
 // What a call says of the exercise.
+// (a frame may hold any code, and a refusal any number, so both stay numbers)
 #[derive(Clone, Copy)]
 pub enum Event {
     // A client's opening was answered.
@@ -35,6 +36,7 @@ pub enum Event {
 }
 
 // What denied an object: an abort's code, or a refusal's number.
+// (each as an Event has it, known or not)
 #[derive(Clone, Copy)]
 pub enum Denial {
     Code(u32),
@@ -42,6 +44,7 @@ pub enum Denial {
 }
 
 // What the events so far come to: the first denial, the bytes sent and all bytes of the reading that came furthest, the code that ended the last one, and the length of the first finish that has another length than the exercise.
+// (opened, asked and passed say that it was so, with no value that an Option would hold)
 #[derive(Clone, Copy)]
 pub struct Marks {
     pub opened: bool,
@@ -70,6 +73,7 @@ pub struct Noted {
 }
 
 // The mark: passed, finished with another length, or the first step of the procedure that is missing.
+// (the code or the number is the denial's, known or not)
 #[derive(Clone, Copy)]
 pub enum Mark {
     Passed,
@@ -166,6 +170,7 @@ fn with_piece(m: Marks, sent: u32, total: u32) -> Marks
 }
 
 // The marks with a finish: the exercise is passed where it has the length that is asked. Of the other lengths the first counts.
+// (the exercise stays beside the marks, here and below: a book is empty before any exercise is named)
 #[tactic(auto, unfolding(crate::specs::Marks::with_finish, picks::specs::Pick::pick))]
 fn with_finish(m: Marks, e: Exercise, length: u32) -> Marks
     ensures { result ≡ with_finish m e length }
@@ -201,10 +206,7 @@ fn after_event(m: Marks, e: Exercise, event: Event) -> Marks
 fn after(m: Marks, e: Exercise, event: Option<Event>) -> Marks
     ensures { result ≡ marks_after e m event }
 {
-    match event {
-        Some(event) => after_event(m, e, event),
-        None => m,
-    }
+    event.map_or(m, |event| after_event(m, e, event))
 }
 
 // The marks after an answer: whether it opened a connection, whether the exercise's object was asked for, what the answer is, and what that says of a reading.
@@ -225,6 +227,7 @@ fn after_answered(
 }
 
 // The marks after a refused request.
+// (the number is whatever `refused` is given)
 fn after_refused(m: Marks, e: Exercise, asked: bool, number: u8) -> Marks
     ensures { result ≡ refused_marks m e asked number }
 {
@@ -321,49 +324,33 @@ fn opens(a: Frame) -> bool
     }
 }
 
-// The entry of an answer, given the frames, the place of the client's running reading, what the answer is, and the reading after it.
-#[tactic(auto, unfolding(crate::specs::Marks::noted_of))]
-fn entry_of(
-    b: Book,
-    e: Exercise,
-    q: Frame,
-    request: &[u8],
-    a: Frame,
-    own: Option<usize>,
-    p: Piece,
-    r: Reading,
-) -> Noted
-    ensures { result ≡ noted_of b e q request.now a own p r }
-{
-    let was = rows::reading_at(b.readings, own);
-    let event = piece_event(e, was.running, r, p);
-    let asked = asks(e, q, request);
-    let place = rows::place_for(b.readings, own);
-    Noted {
-        piece: p,
-        reading: r,
-        event,
-        book: Book {
-            marks: after_answered(b.marks, e, opens(a), asked, p, event),
-            readings: rows::with_reading(b.readings, place, r),
-        },
-    }
-}
-
 // The book after an answer to a client, with the request that it answers; a tick's answer has none.
+#[tactic(auto, unfolding(crate::specs::Marks::noted_of))]
 pub fn answered(b: Book, e: Exercise, client: SdoClientInfo, request: &[u8], answer: &[u8]) -> Noted
     ensures { result ≡ answered_book b e client request.now answer.now }
 {
     let q = frame::read(request);
     let a = frame::read(answer);
-    let p = reading::piece_of(q, a, answer);
+    let piece = reading::piece_of(q, a, answer);
     let own = rows::own_place(b.readings, client);
     let was = rows::reading_at(b.readings, own);
-    let r = reading::next_reading(was, client, p, q, request, a, answer);
-    entry_of(b, e, q, request, a, own, p, r)
+    let reading = reading::next_reading(was, client, piece, q, request, a, answer);
+    let event = piece_event(e, was.running, reading, piece);
+    let asked = asks(e, q, request);
+    let place = rows::place_for(b.readings, own);
+    Noted {
+        piece,
+        reading,
+        event,
+        book: Book {
+            marks: after_answered(b.marks, e, opens(a), asked, piece, event),
+            readings: rows::with_reading(b.readings, place, reading),
+        },
+    }
 }
 
 // The book after a refused request.
+// (a caller may give any number, so it is no Refusal)
 pub fn refused(b: Book, e: Exercise, request: &[u8], number: u8) -> Book
     ensures { result ≡ refused_book b e request.now number }
 {

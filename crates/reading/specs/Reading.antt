@@ -90,6 +90,9 @@ about_of r client Last payload = r
 about_of r client Again payload = r
 about_of r client (Abort code) payload = r
 
+abbrev pub afresh : Reading → ℕ → Reading
+afresh r total = record r { running = true; total = total; sent = 0; register = REGISTER }
+
 abbrev pub begun : Reading → Bool → ℕ → List ℕ → Reading
 begun r running total bytes =
     record r { running = running; total = total; sent = min (0 + length bytes) REGISTER; register = fold crc_byte REGISTER bytes }

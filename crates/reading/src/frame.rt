@@ -14,6 +14,7 @@ pub enum Frame {
 }
 
 // The frame of a header and what stands behind it.
+#[tactic(auto, unfolding(crate::specs::Frame::rest_frame, picks::specs::Pick::pick))]
 fn with_rest(header: SequenceLayerHeader, rest: &[u8]) -> Frame
     ensures { result ≡ rest_frame header rest.now }
 {
@@ -27,6 +28,7 @@ fn with_rest(header: SequenceLayerHeader, rest: &[u8]) -> Frame
 }
 
 // The frame of these bytes.
+#[tactic(auto, unfolding(crate::specs::Frame::frame_of))]
 pub fn read(bytes: &[u8]) -> Frame
     ensures { result ≡ frame_of bytes.now }
 {

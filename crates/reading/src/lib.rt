@@ -6,7 +6,7 @@ pub mod rows;
 
 ghost use Rattle.std.specs.Prelude.{◌≡◌, ◌+◌, ◌-◌, min, length, fold};
 ghost use Rattle.reading.specs.Frame.{payload_in};
-ghost use Rattle.reading.specs.Reading.{REGISTER as FIRST, crc_bit, crc_bits, crc_byte, is_read, named, nobody, upload_piece, short_piece, piece_of, about_of, begun, further, reading_after};
+ghost use Rattle.reading.specs.Reading.{REGISTER as FIRST, crc_bit, crc_bits, crc_byte, is_read, named, nobody, upload_piece, short_piece, piece_of, about_of, afresh, further, over, reading_after};
 
 use frame::Frame;
 use protocol::{
@@ -15,6 +15,7 @@ use protocol::{
 };
 
 // What an answer is to a reading (an answer that is no part of it has words on the sheet too, so it is a variant and no None): no part of it, the whole value, its first piece with the size in Initiate, a later one, the last one, a piece sent before, or an abort with its code.
+// (a frame may hold any number behind an abort, so the code stays a number)
 #[derive(Clone, Copy)]
 pub enum Piece {
     Other,
@@ -150,21 +151,6 @@ pub fn piece_of(q: Frame, a: Frame, bytes: &[u8]) -> Piece
     short_piece(q, command.header)
 }
 
-// A reading of the object that a read's payload names, of which nothing is sent yet.
-fn reading_of(client: SdoClientInfo, payload: &[u8]) -> Reading
-    ensures { result ≡ named client payload.now }
-{
-    Reading {
-        running: false,
-        client,
-        index: octets::number_at(payload, 0),
-        sub: octets::byte_at(payload, 2),
-        total: 0,
-        sent: 0,
-        register: REGISTER,
-    }
-}
-
 // A reading of nobody.
 pub fn no_reading() -> Reading
     ensures { result ≡ nobody }
@@ -180,6 +166,18 @@ pub fn no_reading() -> Reading
     }
 }
 
+// A reading of the object that a read's payload names, of which nothing is sent yet.
+fn reading_of(client: SdoClientInfo, payload: &[u8]) -> Reading
+    ensures { result ≡ named client payload.now }
+{
+    Reading {
+        client,
+        index: octets::number_at(payload, 0),
+        sub: octets::byte_at(payload, 2),
+        ..no_reading()
+    }
+}
+
 // The reading that an answer is about: a first piece or a whole value begins one of the object that the request's payload names.
 fn about(r: Reading, client: SdoClientInfo, p: Piece, payload: &[u8]) -> Reading
     ensures { result ≡ about_of r client p payload.now }
@@ -190,27 +188,36 @@ fn about(r: Reading, client: SdoClientInfo, p: Piece, payload: &[u8]) -> Reading
     }
 }
 
-// A reading that begins with these bytes.
-fn begins(r: Reading, running: bool, total: u32, bytes: &[u8]) -> Reading
-    ensures { result ≡ begun r running total bytes.now }
+// A reading that runs from its first byte on.
+fn afresh(r: Reading, total: u32) -> Reading
+    ensures { result ≡ afresh r total }
 {
     Reading {
-        running,
+        running: true,
         total,
-        sent: more(0, bytes),
-        register: crc_over(REGISTER, bytes),
+        sent: 0,
+        register: REGISTER,
         ..r
     }
 }
 
 // A reading that goes on with these bytes.
-fn goes_on(r: Reading, running: bool, bytes: &[u8]) -> Reading
-    ensures { result ≡ further r running bytes.now }
+fn goes_on(r: Reading, bytes: &[u8]) -> Reading
+    ensures { result ≡ further r r.running bytes.now }
 {
     Reading {
-        running,
         sent: more(r.sent, bytes),
         register: crc_over(r.register, bytes),
+        ..r
+    }
+}
+
+// A reading that runs no more.
+fn over(r: Reading) -> Reading
+    ensures { result ≡ over r }
+{
+    Reading {
+        running: false,
         ..r
     }
 }
@@ -221,14 +228,11 @@ fn after_answer(r: Reading, p: Piece, bytes: &[u8]) -> Reading
 {
     match p {
         Piece::Other | Piece::Again => r,
-        Piece::Whole => begins(r, false, more(0, bytes), bytes),
-        Piece::First(total) => begins(r, true, total, bytes),
-        Piece::Next => goes_on(r, r.running, bytes),
-        Piece::Last => goes_on(r, false, bytes),
-        Piece::Abort(_) => Reading {
-            running: false,
-            ..r
-        },
+        Piece::Whole => over(goes_on(afresh(r, more(0, bytes)), bytes)),
+        Piece::First(total) => goes_on(afresh(r, total), bytes),
+        Piece::Next => goes_on(r, bytes),
+        Piece::Last => over(goes_on(r, bytes)),
+        Piece::Abort(_) => over(r),
     }
 }
 
