@@ -1,6 +1,4 @@
 // Calls of the server, each printed with what was given, what came out and what it left. A call is right when the whole answer buffer, the answer's length, the refusal, the records in use and the image are as they should be.
-ghost use Rattle.std.specs.Prelude.{◌≤◌};
-
 use crate::rows;
 use crate::rows::Score;
 use protocol::{Connection, Refusal, SdoClientInfo, SdoServerState};
@@ -36,57 +34,86 @@ impl fmt::Display for Left {
     }
 }
 
-// What should come of a call, beside the bytes that begin its answer: which part of the image follows them, a refusal, and what the call leaves.
+impl From<SdoServerState> for Left {
+    fn from(state: SdoServerState) -> Self {
+        match state {
+            SdoServerState::Closed => Left::Closed,
+            SdoServerState::Opening => Left::Opening,
+            SdoServerState::Established => Left::Established,
+            SdoServerState::SegmentedUpload(_) => Left::Upload,
+            SdoServerState::SegmentedDownload(_) => Left::Download,
+        }
+    }
+}
+
+// What a call leaves, by its word.
+impl From<&str> for Left {
+    fn from(word: &str) -> Self {
+        match word {
+            "Opening" => Left::Opening,
+            "upload" => Left::Upload,
+            _ => Left::Dropped,
+        }
+    }
+}
+
+// What should come of a call: the text of the bytes that begin its answer, the part of the object behind them, a refusal, and what the call leaves.
 #[derive(Clone, Copy)]
-pub struct Due {
-    pub from: usize,
-    pub size: usize,
+pub struct Due<'a> {
+    pub head: &'a str,
+    pub part: &'a [u8],
     pub refused: Option<Refusal>,
     pub left: Left,
 }
 
-// What came of a call.
+impl fmt::Display for Due<'_> {
+    fn fmt<W: fmt::Write>(&self, f: &mut fmt::Formatter<W>) -> fmt::Result {
+        write!(f, "due   {}", self.head)?;
+        if !self.part.is_empty() {
+            write!(f, " and {} bytes of the object", self.part.len())?;
+        }
+        if let Some(refusal) = self.refused {
+            write!(f, " refused with {}", u8::from(refusal))?;
+        }
+        write!(f, "; {}", self.left)
+    }
+}
+
+// What came of a call: the answer buffer, and how many of its bytes are the answer.
 #[derive(Clone, Copy)]
-struct Came {
+struct Came<'a> {
+    answer: &'a [u8],
     len: usize,
     refused: Option<Refusal>,
     left: Left,
 }
 
-// A call: what is printed of it, the request's bytes, the text of the bytes that begin its answer, and what else is due.
+impl fmt::Display for Came<'_> {
+    fn fmt<W: fmt::Write>(&self, f: &mut fmt::Formatter<W>) -> fmt::Result {
+        let bytes = octets::part(self.answer, 0, self.len);
+        write!(f, "came  {}", Start { bytes, shown: 16 })?;
+        if let Some(refusal) = self.refused {
+            write!(f, " refused with {}", u8::from(refusal))?;
+        } else if self.len == 0 {
+            f.write_str(" nothing")?;
+        }
+        write!(f, "; {}", self.left)
+    }
+}
+
+// A call: what is printed of it, the request's bytes, and what is due.
 #[derive(Clone, Copy)]
 pub struct Call<'a> {
     pub what: &'a str,
     pub bytes: &'a [u8],
-    pub head: &'a str,
-    pub due: Due,
+    pub due: Due<'a>,
 }
 
-// An answer without a part of the image.
-pub fn leaves(left: Left) -> Due {
+// An answer without a part of the object.
+pub fn leaves(head: &str, left: Left) -> Due<'_> {
     Due {
-        from: 0,
-        size: 0,
-        refused: None,
-        left,
-    }
-}
-
-// A refusal of the card, which leaves no record in use.
-pub fn refuses(refusal: Refusal) -> Due {
-    Due {
-        from: 0,
-        size: 0,
-        refused: Some(refusal),
-        left: Left::Dropped,
-    }
-}
-
-// An answer that ends with a part of the image.
-pub fn sends(from: usize, size: usize, left: Left) -> Due {
-    Due {
-        from,
-        size,
+        head,
+        part: &[],
         refused: None,
         left,
     }
@@ -105,22 +132,12 @@ pub fn in_state(send: u8, receive: u8, state: SdoServerState) -> [Connection; 8]
     t[0] = Connection {
         used: true,
         client: client(),
-        area: 0,
         send,
         receive,
         state,
+        ..t[0]
     };
     t
-}
-
-fn left_by(s: SdoServerState) -> Left {
-    match s {
-        SdoServerState::Closed => Left::Closed,
-        SdoServerState::Opening => Left::Opening,
-        SdoServerState::Established => Left::Established,
-        SdoServerState::SegmentedUpload(_) => Left::Upload,
-        SdoServerState::SegmentedDownload(_) => Left::Download,
-    }
 }
 
 // What is left in use: used records come first.
@@ -129,14 +146,15 @@ fn left_in(t: [Connection; 8]) -> Left {
         return Left::More;
     }
     if t[0].used {
-        return left_by(t[0].state);
+        return Left::from(t[0].state);
     }
     Left::Dropped
 }
 
 // What came of a call whose outcome is the length of its answer, 0 where it has none.
-fn came_of(outcome: Result<usize, Refusal>, t: [Connection; 8]) -> Came {
+fn came_of(outcome: Result<usize, Refusal>, answer: &[u8], t: [Connection; 8]) -> Came<'_> {
     Came {
+        answer,
         len: outcome.unwrap_or(0),
         refused: outcome.err(),
         left: left_in(t),
@@ -144,59 +162,29 @@ fn came_of(outcome: Result<usize, Refusal>, t: [Connection; 8]) -> Came {
 }
 
 // Puts the answer that is due at the start of a buffer, and answers its length.
-fn put_due(head: &str, object: &[u8], due: Due, wanted: &mut [u8]) -> usize {
-    let n = rows::read(head, wanted);
-    octets::copy_at(wanted, n, octets::part(object, due.from, due.size));
-    n.wrapping_add(due.size)
+fn put_due(due: Due, wanted: &mut [u8]) -> usize {
+    let n = rows::read(due.head, wanted).len();
+    octets::copy_at(wanted, n, due.part);
+    n.wrapping_add(due.part.len())
 }
 
-// Whether an answer, what was left and the image are as they should be.
-fn is_right(came: Came, answer: &[u8], image: &[u8], head: &str, object: &[u8], due: Due) -> bool {
+// Whether what came, and the image, are as they should be.
+fn is_right(came: Came, due: Due, image: &[u8], object: &[u8]) -> bool {
     let mut wanted = [FILL; 1468];
-    let n = put_due(head, object, due, &mut wanted);
-    answer == wanted.as_slice()
+    let n = put_due(due, &mut wanted);
+    came.answer == wanted.as_slice()
         && came.len == n
         && came.refused == due.refused
         && came.left == due.left
         && image == object
 }
 
-// What came of a call, in words.
-fn say_came(rt: &impl Print, came: Came, answer: &[u8]) -> io::Result<()> {
-    let bytes = octets::part(answer, 0, came.len);
-    print!(rt; "            came  {}", Start { bytes, shown: 16 })?;
-    if let Some(refusal) = came.refused {
-        print!(rt; " refused with {}", u8::from(refusal))?;
-    } else if came.len == 0 {
-        print!(rt; " nothing")?;
-    }
-    println!(rt; "; {}", came.left)
-}
-
-// What was due, where something else came.
-fn say_due(rt: &impl Print, head: &str, due: Due) -> io::Result<()> {
-    print!(rt; "            due   {head}")?;
-    if due.size > 0 {
-        print!(rt; " and {} bytes of the object", due.size)?;
-    }
-    if let Some(refusal) = due.refused {
-        print!(rt; " refused with {}", u8::from(refusal))?;
-    }
-    println!(rt; "; {}", due.left)
-}
-
-// The end of a call's row.
-fn say_outcome(
-    rt: &impl Print,
-    came: Came,
-    answer: &[u8],
-    same: bool,
-    head: &str,
-    due: Due,
-) -> io::Result<()> {
-    say_came(rt, came, answer)?;
+// The end of a call's row: what came, and what was due where that is something else.
+// (both print by Display: this is the step that prints the second or not)
+fn say_outcome(rt: &impl Print, came: Came, due: Due, same: bool) -> io::Result<()> {
+    println!(rt; "            {came}")?;
     if !same {
-        say_due(rt, head, due)?;
+        println!(rt; "            {due}")?;
     }
     Ok(())
 }
@@ -211,39 +199,24 @@ pub fn asks(
     object: &[u8],
     call: Call,
 ) -> io::Result<[Connection; 8]> {
-    let Call {
-        what,
-        bytes,
-        head,
-        due,
-    } = call;
+    let Call { what, bytes, due } = call;
     let mut answer = [FILL; 1468];
     let called = owned::handle_request(t, area, image, &mut answer, client(), 0, bytes);
     let length = called.outcome.map(|answered| answered.length);
-    let came = came_of(length, called.table);
-    let same = is_right(came, &answer, image, head, object, due);
+    let came = came_of(length, &answer, called.table);
+    let same = is_right(came, due, image, object);
     rows::verdict(rt, score, same)?;
     println!(rt; "{what}\n            given {}", Start { bytes, shown: 24 })?;
-    say_outcome(rt, came, &answer, same, head, due)?;
+    say_outcome(rt, came, due, same)?;
     Ok(called.table)
 }
 
-// What a call leaves, by its word.
-fn left_of(word: &str) -> Left {
-    match word {
-        "Opening" => Left::Opening,
-        "upload" => Left::Upload,
-        _ => Left::Dropped,
-    }
-}
-
-// What should come, by the end of a line: the image's part as a place and a length of two bytes each, and the word for what is left.
-fn due_of(text: &str, word: &str) -> Due {
-    let mut part = [0u8; 4];
-    rows::read(text, &mut part);
+// The part of an object that a text names, by a place and a length of two bytes each.
+fn part_of<'a>(object: &'a [u8], text: &str) -> &'a [u8] {
+    let part: [u8; 4] = rows::bytes(text);
     let from: u16 = octets::number_at(&part, 0);
     let size: u16 = octets::number_at(&part, 2);
-    sends(usize::from(from), usize::from(size), left_of(word))
+    octets::part(object, usize::from(from), usize::from(size))
 }
 
 // A request of a line: what is printed, the request, the bytes that begin its answer, the image's part behind them, and what is left.
@@ -260,47 +233,35 @@ fn step(
     let (given, rest) = rest.split_once('|').unwrap_or((rest, ""));
     let (head, rest) = rest.split_once('|').unwrap_or((rest, ""));
     let (part, word) = rest.split_once('|').unwrap_or((rest, ""));
-    let mut space = [0u8; 32];
-    let n = rows::read(given, &mut space);
-    let bytes = octets::part(&space, 0, n);
-    let due = due_of(part, word);
-    let call = Call {
-        what,
-        bytes,
-        head,
-        due,
+    let mut buffer = [0; 32];
+    let bytes = rows::read(given, &mut buffer);
+    let due = Due {
+        part: part_of(object, part),
+        ..leaves(head, Left::from(word))
     };
+    let call = Call { what, bytes, due };
     asks(rt, score, t, area, image, object, call)
 }
 
-// The length of an image, which is at most that of an object of 8,192 bytes.
-fn image_length(first: &[u8]) -> usize
-    ensures { result ≤ 8206 }
-{
-    first.len().min(8206)
-}
-
 // Plays the requests of a text, one to a line, on an image and an area that begins with the bytes 1 to 6. `object` is the image as it should be after each.
-pub fn script(
+pub fn script<const N: usize>(
     rt: &impl Print,
     score: &mut Score,
     mut t: [Connection; 8],
-    first: &[u8],
+    mut image: [u8; N],
     object: &[u8],
     text: &str,
 ) -> io::Result<()> {
     let mut area = [0u8; 65536];
     octets::copy_at(&mut area, 0, &[1, 2, 3, 4, 5, 6]);
-    let mut space = [0u8; 8206];
-    octets::copy_at(&mut space, 0, first);
-    let n = image_length(first);
     for line in text.lines() {
-        t = step(rt, score, t, &mut area, &mut space[0..n], object, line)?;
+        t = step(rt, score, t, &mut area, &mut image, object, line)?;
     }
     Ok(())
 }
 
 // A tick, on an image that it leaves as it is, and the table after it.
+// (the table and the clock are the tick's own two parameters)
 pub fn ticks<'a>(
     rt: &impl Print,
     score: &mut Score,
@@ -308,7 +269,6 @@ pub fn ticks<'a>(
     area: &'a [u8],
     image: &'a [u8],
     clock: u64,
-    head: &str,
     due: Due,
 ) -> io::Result<[Connection; 8]> {
     let mut answer = [FILL; 1468];
@@ -316,11 +276,11 @@ pub fn ticks<'a>(
     let length = called
         .outcome
         .map(|said| said.map_or(0, |answered| answered.length));
-    let came = came_of(length, called.table);
-    let same = is_right(came, &answer, image, head, image, due);
+    let came = came_of(length, &answer, called.table);
+    let same = is_right(came, due, image, image);
     rows::verdict(rt, score, same)?;
     println!(rt; "an upload due at 1000000 without retries")?;
     println!(rt; "            given  a tick at {clock}")?;
-    say_outcome(rt, came, &answer, same, head, due)?;
+    say_outcome(rt, came, due, same)?;
     Ok(called.table)
 }

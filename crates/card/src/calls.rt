@@ -12,72 +12,77 @@ fn fill(image: &mut [u8]) {
     }
 }
 
-// An image of one object of n bytes, 2001/1.
-fn put_object(image: &mut [u8], n: u16) {
+// Makes an image that of one object, 2001/1, whose value goes to its end.
+fn put_object(image: &mut [u8]) {
     fill(image);
     octets::copy_at(image, 0, &[1, 0, 0x01, 0x20, 1, 0, 14, 0, 0, 0]);
+    let n = (image.len().saturating_sub(14) % 65536) as u16;
     octets::store(image, 10, n);
     octets::store(image, 12, n);
 }
 
-// The read of a value of two bytes, and of one that is absent.
-fn held_row(rt: &impl Print, score: &mut Score) -> io::Result<()> {
-    let object = [1, 0, 0x01, 0x20, 1, 0, 14, 0, 0, 0, 2, 0, 2, 0, 0x34, 0x12];
-    let text = "a new client| 00 01 00 00| 01 01 00 00 00 00 10 00 00 00 00 00| 00 00 00 00|Opening
+// An image of one object of two bytes, 2001/1, which holds 34 12.
+pub const OBJECT: [u8; 16] = [1, 0, 0x01, 0x20, 1, 0, 14, 0, 0, 0, 2, 0, 2, 0, 0x34, 0x12];
+
+const HELD: &str =
+    "a new client| 00 01 00 00| 01 01 00 00 00 00 10 00 00 00 00 00| 00 00 00 00|Opening
 then a read of 2001/1, which holds 34 12| 02 06 00 00 00 07 00 02 04 00 00 00 01 20 01 00| 06 06 00 00 00 07 10 00 02 00 00 00 34 12| 00 00 00 00|dropped";
-    bench::script(rt, score, record::empty_table(), &object, &object, text)
-}
 
-fn absent_row(rt: &impl Print, score: &mut Score) -> io::Result<()> {
-    let text = "a new client| 00 01 00 00| 01 01 00 00 00 00 10 00 00 00 00 00| 00 00 00 00|Opening
+const ABSENT: &str =
+    "a new client| 00 01 00 00| 01 01 00 00 00 00 10 00 00 00 00 00| 00 00 00 00|Opening
 then the same read, 2001 absent| 02 06 00 00 00 07 00 02 04 00 00 00 01 20 01 00| FE 04 00 00 00 07 30 00 04 00 00 00 00 00 02 06| 00 00 00 00|dropped";
-    bench::script(rt, score, record::empty_table(), &[0, 0], &[0, 0], text)
-}
 
-fn undecodable_row(rt: &impl Print, score: &mut Score) -> io::Result<()> {
-    let text =
-        "command 05 07 00| 00 00 00 00 05 07 00| FC 00 00 00 00 05 30 00 04 00 00 00 01 00 04 05| 00 00 00 00|dropped";
-    bench::script(rt, score, record::empty_table(), &[0, 0], &[0, 0], text)
-}
+const UNDECODABLE: &str =
+    "command 05 07 00| 00 00 00 00 05 07 00| FC 00 00 00 00 05 30 00 04 00 00 00 01 00 04 05| 00 00 00 00|dropped";
 
-// The rows of a read answered in one frame, and of a command that is none.
+// The rows of a read answered in one frame, of a value of two bytes and of one that is absent, and of a command that is none.
 pub fn reading_rows(rt: &impl Print, score: &mut Score) -> io::Result<()> {
-    held_row(rt, score)?;
-    absent_row(rt, score)?;
-    undecodable_row(rt, score)
+    let t = record::empty_table();
+    bench::script(rt, score, t, OBJECT, &OBJECT, HELD)?;
+    bench::script(rt, score, t, [0, 0], &[0, 0], ABSENT)?;
+    bench::script(rt, score, t, [0, 0], &[0, 0], UNDECODABLE)
 }
 
-// A read of a value of n bytes.
-fn upload_row(rt: &impl Print, score: &mut Score, n: u16, text: &str) -> io::Result<()> {
-    let mut space = [0u8; 8206];
-    put_object(&mut space, n);
-    let object = octets::part(&space, 0, 14 + usize::from(n));
-    bench::script(rt, score, record::empty_table(), object, object, text)
+// A read of the whole value of an image.
+fn upload_row<const N: usize>(
+    rt: &impl Print,
+    score: &mut Score,
+    mut image: [u8; N],
+    text: &str,
+) -> io::Result<()> {
+    put_object(&mut image);
+    bench::script(rt, score, record::empty_table(), image, &image, text)
 }
 
-fn short_upload_rows(rt: &impl Print, score: &mut Score) -> io::Result<()> {
-    let text = "a new client| 00 01 00 00| 01 01 00 00 00 00 10 00 00 00 00 00| 00 00 00 00|Opening
+const ONE_FRAME: &str =
+    "a new client| 00 01 00 00| 01 01 00 00 00 00 10 00 00 00 00 00| 00 00 00 00|Opening
 a read of 1452 bytes: one Expedited| 02 06 00 00 00 07 00 02 04 00 00 00 01 20 01 00| 06 06 00 00 00 07 10 00 AC 05 00 00| 0E 00 AC 05|dropped";
-    upload_row(rt, score, 1452, text)?;
-    let text = "a new client| 00 01 00 00| 01 01 00 00 00 00 10 00 00 00 00 00| 00 00 00 00|Opening
+
+const ONE_BYTE_MORE: &str =
+    "a new client| 00 01 00 00| 01 01 00 00 00 00 10 00 00 00 00 00| 00 00 00 00|Opening
 a read of 1453 bytes: Initiate of 1452| 02 06 00 00 00 07 00 02 04 00 00 00 01 20 01 00| 06 06 00 00 00 07 50 02 AC 05 00 00 AD 05 00 00| 0E 00 AC 05|upload
 acknowledged: Complete of 1| 06 0A 00 00| 0A 0A 00 00 00 07 D0 02 01 00 00 00| BA 05 01 00|dropped";
-    upload_row(rt, score, 1453, text)
-}
 
-fn long_upload_rows(rt: &impl Print, score: &mut Score) -> io::Result<()> {
-    let text = "a new client| 00 01 00 00| 01 01 00 00 00 00 10 00 00 00 00 00| 00 00 00 00|Opening
+const TWO_PIECES: &str =
+    "a new client| 00 01 00 00| 01 01 00 00 00 00 10 00 00 00 00 00| 00 00 00 00|Opening
 a read of 2904 bytes: Initiate of 1452| 02 06 00 00 00 07 00 02 04 00 00 00 01 20 01 00| 06 06 00 00 00 07 50 02 AC 05 00 00 58 0B 00 00| 0E 00 AC 05|upload
 acknowledged: Complete of 1452| 06 0A 00 00| 0A 0A 00 00 00 07 D0 02 AC 05 00 00| BA 05 AC 05|dropped";
-    upload_row(rt, score, 2904, text)?;
-    let text = "a new client| 00 01 00 00| 01 01 00 00 00 00 10 00 00 00 00 00| 00 00 00 00|Opening
+
+const SIX_PIECES: &str =
+    "a new client| 00 01 00 00| 01 01 00 00 00 00 10 00 00 00 00 00| 00 00 00 00|Opening
 a read of 8192 bytes, six pieces: Initiate of 1452| 02 06 00 00 00 07 00 02 04 00 00 00 01 20 01 00| 06 06 00 00 00 07 50 02 AC 05 00 00 00 20 00 00| 0E 00 AC 05|upload
 acknowledged: Segment of 1452| 06 0A 00 00| 0A 0A 00 00 00 07 90 02 AC 05 00 00| BA 05 AC 05|upload
 acknowledged: Segment of 1452| 0A 0E 00 00| 0E 0E 00 00 00 07 90 02 AC 05 00 00| 66 0B AC 05|upload
 acknowledged: Segment of 1452| 0E 12 00 00| 12 12 00 00 00 07 90 02 AC 05 00 00| 12 11 AC 05|upload
 acknowledged: Segment of 1452| 12 16 00 00| 16 16 00 00 00 07 90 02 AC 05 00 00| BE 16 AC 05|upload
 acknowledged: Complete of 932| 16 1A 00 00| 1A 1A 00 00 00 07 D0 02 A4 03 00 00| 6A 1C A4 03|dropped";
-    upload_row(rt, score, 8192, text)
+
+// The rows of uploads; a value stands behind 14 bytes of its image.
+fn upload_rows(rt: &impl Print, score: &mut Score) -> io::Result<()> {
+    upload_row(rt, score, [0; 14 + 1452], ONE_FRAME)?;
+    upload_row(rt, score, [0; 14 + 1453], ONE_BYTE_MORE)?;
+    upload_row(rt, score, [0; 14 + 2904], TWO_PIECES)?;
+    upload_row(rt, score, [0; 14 + 8192], SIX_PIECES)
 }
 
 // An upload that is due at 1,000,000 with no retries left.
@@ -95,11 +100,11 @@ fn tick_row(rt: &impl Print, score: &mut Score) -> io::Result<()> {
         stored: true,
     };
     let t = bench::in_state(5, 7, SdoServerState::SegmentedUpload(transfer));
-    let due = bench::leaves(Left::Upload);
-    let t = bench::ticks(rt, score, t, &area, &image, 999999, "", due)?;
+    let due = bench::leaves("", Left::Upload);
+    let t = bench::ticks(rt, score, t, &area, &image, 999999, due)?;
     let head = " FE 00 00 00 00 09 30 00 04 00 00 00 00 00 04 05";
-    let due = bench::leaves(Left::Dropped);
-    bench::ticks(rt, score, t, &area, &image, 1000000, head, due)?;
+    let due = bench::leaves(head, Left::Dropped);
+    bench::ticks(rt, score, t, &area, &image, 1000000, due)?;
     Ok(())
 }
 
@@ -121,66 +126,59 @@ fn download_row(rt: &impl Print, score: &mut Score, body: &[u8], text: &str) -> 
         stored: false,
     };
     let t = bench::in_state(1, 1, SdoServerState::SegmentedDownload(transfer));
-    bench::script(rt, score, t, &image, &object, text)
+    bench::script(rt, score, t, image, &object, text)
 }
 
+const PAST_THE_TOTAL: &str =
+    "download total 10, offset 6: Segment of 5| 06 0A 00 00 00 07 80 01 05 00 00 00 00 00 00 00 00| FE 08 00 00 00 07 30 00 04 00 00 00 10 00 07 06| 00 00 00 00|dropped";
+
+const SHORT_OF_THE_TOTAL: &str =
+    "the same: Complete of 3| 06 0A 00 00 00 07 C0 01 03 00 00 00 00 00 00| FE 08 00 00 00 07 30 00 04 00 00 00 13 00 07 06| 00 00 00 00|dropped";
+
+const THE_TOTAL: &str =
+    "the same: Complete of 4, which writes 01 to 0A into 2001/1| 06 0A 00 00 00 07 C0 01 04 00 00 00 07 08 09 0A| 0A 0A 00 00 00 07 10 00 00 00 00 00| 00 00 00 00|dropped";
+
 fn download_rows(rt: &impl Print, score: &mut Score) -> io::Result<()> {
-    let text =
-        "download total 10, offset 6: Segment of 5| 06 0A 00 00 00 07 80 01 05 00 00 00 00 00 00 00 00| FE 08 00 00 00 07 30 00 04 00 00 00 10 00 07 06| 00 00 00 00|dropped";
-    download_row(rt, score, &[], text)?;
-    let text =
-        "the same: Complete of 3| 06 0A 00 00 00 07 C0 01 03 00 00 00 00 00 00| FE 08 00 00 00 07 30 00 04 00 00 00 13 00 07 06| 00 00 00 00|dropped";
-    download_row(rt, score, &[], text)?;
-    let text =
-        "the same: Complete of 4, which writes 01 to 0A into 2001/1| 06 0A 00 00 00 07 C0 01 04 00 00 00 07 08 09 0A| 0A 0A 00 00 00 07 10 00 00 00 00 00| 00 00 00 00|dropped";
-    download_row(rt, score, &[1, 2, 3, 4, 5, 6, 7, 8, 9, 10], text)
+    download_row(rt, score, &[], PAST_THE_TOTAL)?;
+    download_row(rt, score, &[], SHORT_OF_THE_TOTAL)?;
+    download_row(rt, score, &[1, 2, 3, 4, 5, 6, 7, 8, 9, 10], THE_TOTAL)
 }
 
 // The rows of uploads, of the tick and of downloads.
 pub fn transfer_rows(rt: &impl Print, score: &mut Score) -> io::Result<()> {
-    short_upload_rows(rt, score)?;
-    long_upload_rows(rt, score)?;
+    upload_rows(rt, score)?;
     tick_row(rt, score)?;
     download_rows(rt, score)
 }
 
-// A request of a length, a Nil of transaction 7 with zeros behind it.
-fn length_row(
+// A request of N bytes, a Nil of transaction 7 with zeros behind it.
+fn length_row<const N: usize>(
     rt: &impl Print,
     score: &mut Score,
     what: &str,
-    n: usize,
-    head: &str,
+    mut bytes: [u8; N],
     due: Due,
 ) -> io::Result<()> {
+    octets::store_u8(&mut bytes, 5, 7);
     let mut area = [0u8; 65536];
     let mut image = [0, 0];
-    let mut space = [0u8; 1501];
-    octets::store_u8(&mut space, 5, 7);
-    let bytes = octets::part(&space, 0, n);
+    let t = record::empty_table();
     let call = Call {
         what,
-        bytes,
-        head,
+        bytes: &bytes,
         due,
     };
-    bench::asks(
-        rt,
-        score,
-        record::empty_table(),
-        &mut area,
-        &mut image,
-        &[0, 0],
-        call,
-    )?;
+    bench::asks(rt, score, t, &mut area, &mut image, &[0, 0], call)?;
     Ok(())
 }
 
 // A request of 1,500 bytes is served, one of 1,501 is refused with 6.
 pub fn length_rows(rt: &impl Print, score: &mut Score) -> io::Result<()> {
-    let what = "a request of 1500 bytes";
-    let head = " FC 00 00 00 00 07 10 00 00 00 00 00";
-    length_row(rt, score, what, 1500, head, bench::leaves(Left::Dropped))?;
-    let what = "a request of 1501 bytes";
-    length_row(rt, score, what, 1501, "", bench::refuses(Refusal::Long))
+    let served = bench::leaves(" FC 00 00 00 00 07 10 00 00 00 00 00", Left::Dropped);
+    let refused = Due {
+        refused: Some(Refusal::Long),
+        ..bench::leaves("", Left::Dropped)
+    };
+    length_row(rt, score, "a request of 1500 bytes", [0; 1500], served)?;
+    length_row(rt, score, "a request of 1501 bytes", [0; 1501], refused)
 }

@@ -6,6 +6,7 @@ use protocol::{
     SendConnState, SequenceLayerHeader,
 };
 use std::io;
+use std::io::Write;
 
 // The bytes that were written.
 fn written(w: Result<usize, BufferTooShort>, buffer: &[u8]) -> &[u8] {
@@ -14,13 +15,12 @@ fn written(w: Result<usize, BufferTooShort>, buffer: &[u8]) -> &[u8] {
 
 // A header of four bytes, the numbers and then the marks, receive before send, is encoded.
 fn header_row(rt: &impl Print, score: &mut Score, row: Row) -> io::Result<()> {
-    let mut h = [0u8; 4];
-    rows::read(row.given, &mut h);
+    let [receive, send, rcon, scon] = rows::bytes::<4>(row.given);
     let header = SequenceLayerHeader {
-        receive: h[0],
-        rcon: ReceiveConnState::from(h[2]),
-        send: h[1],
-        scon: SendConnState::from(h[3]),
+        receive,
+        rcon: ReceiveConnState::from(rcon),
+        send,
+        scon: SendConnState::from(scon),
     };
     let mut out = [0u8; 16];
     let w = sequence::serialize(header, &mut out);
@@ -29,9 +29,8 @@ fn header_row(rt: &impl Print, score: &mut Score, row: Row) -> io::Result<()> {
 
 // A header is decoded to its numbers and marks.
 fn header_read_row(rt: &impl Print, score: &mut Score, row: Row) -> io::Result<()> {
-    let mut space = [0u8; 16];
-    let n = rows::read(row.given, &mut space);
-    let Ok(header) = sequence::deserialize(octets::part(&space, 0, n)) else {
+    let mut buffer = [0; 16];
+    let Ok(header) = sequence::deserialize(rows::read(row.given, &mut buffer)) else {
         return rows::say(rt, score, row, b"");
     };
     let came = [
@@ -45,29 +44,41 @@ fn header_read_row(rt: &impl Print, score: &mut Score, row: Row) -> io::Result<(
 
 // The number after a number.
 fn next_row(rt: &impl Print, score: &mut Score, row: Row) -> io::Result<()> {
-    let mut n = [0u8; 1];
-    rows::read(row.given, &mut n);
-    rows::say(
-        rt,
-        score,
-        Row { given: "", ..row },
-        &[sequence::next_number(n[0])],
-    )
+    let [number] = rows::bytes::<1>(row.given);
+    let next = sequence::next_number(number);
+    rows::say(rt, score, Row { given: "", ..row }, &[next])
 }
 
-// An Expedited Nil answer to a transaction is encoded, with the bytes after the transaction as its payload.
-fn answer_row(rt: &impl Print, score: &mut Score, aborted: bool, row: Row) -> io::Result<()> {
-    let mut space = [0u8; 16];
-    let n = rows::read(row.given, &mut space);
-    let bytes = octets::part(&space, 0, n);
+// The header of an Expedited Nil answer without a payload.
+const ANSWER: CommandLayerHeader = CommandLayerHeader {
+    transaction: 0,
+    response: true,
+    aborted: false,
+    segmentation: Segmentation::Expedited,
+    id: CommandId::Nil,
+    size: 0,
+};
+
+// The same of an abort.
+const ABORT: CommandLayerHeader = CommandLayerHeader {
+    aborted: true,
+    ..ANSWER
+};
+
+// An answer to a transaction is encoded, with the bytes after the transaction as its payload.
+fn answer_row(
+    rt: &impl Print,
+    score: &mut Score,
+    header: CommandLayerHeader,
+    row: Row,
+) -> io::Result<()> {
+    let mut buffer = [0; 16];
+    let bytes = rows::read(row.given, &mut buffer);
     let payload = octets::rest(bytes, 1);
     let header = CommandLayerHeader {
         transaction: octets::byte_at(bytes, 0),
-        response: true,
-        aborted,
-        segmentation: Segmentation::Expedited,
-        id: CommandId::Nil,
         size: (payload.len() % 65536) as u16,
+        ..header
     };
     let mut out = [0u8; 32];
     let answer = SdoCommand {
@@ -78,52 +89,40 @@ fn answer_row(rt: &impl Print, score: &mut Score, aborted: bool, row: Row) -> io
     rows::say(rt, score, row, written(w, &out))
 }
 
-// The total of an Initiate goes behind the other fields; the payload begins there elsewhere.
-fn put_total(total: Option<u32>, came: &mut [u8]) -> usize {
-    let Some(n) = total else {
-        return 7;
-    };
-    octets::store(came, 7, n);
-    11
-}
-
-// The fields of a command, and its payload; answers where the payload begins.
-fn fields(c: SdoCommand, payload: &[u8], came: &mut [u8]) -> usize {
+// The fields of a command, the total where it has one, and its payload.
+fn put_command(c: SdoCommand, payload: &[u8], out: &mut impl Write) -> io::Result<()> {
     let h = c.header;
-    let flags = [h.transaction, u8::from(h.response), u8::from(h.aborted)];
-    let codes = [u8::from(h.segmentation), u8::from(h.id)];
-    octets::copy_at(came, 0, &flags);
-    octets::copy_at(came, 3, &codes);
-    octets::store(came, 5, h.size);
-    let at = put_total(c.total, came);
-    octets::copy_at(came, at, payload);
-    at
+    out.write_all(&[h.transaction, u8::from(h.response), u8::from(h.aborted)])?;
+    out.write_all(&[u8::from(h.segmentation), u8::from(h.id)])?;
+    out.write_all(&h.size.to_le_bytes())?;
+    if let Some(total) = c.total {
+        out.write_all(&total.to_le_bytes())?;
+    }
+    out.write_all(payload)
 }
 
 // A command is decoded to its fields and payload; an undecodable one to its transaction id.
 fn command_read_row(rt: &impl Print, score: &mut Score, row: Row) -> io::Result<()> {
-    let mut space = [0u8; 32];
-    let n = rows::read(row.given, &mut space);
-    let bytes = octets::part(&space, 0, n);
+    let mut buffer = [0; 32];
+    let bytes = rows::read(row.given, &mut buffer);
     let Ok(c) = command::deserialize(bytes) else {
         return rows::say(rt, score, row, &[fields::undecodable_transaction(bytes)]);
     };
-    let mut came = [0u8; 64];
-    let payload = command::payload(c.header, bytes);
-    let at = fields(c, payload, &mut came);
-    let k = at.wrapping_add(payload.len());
-    rows::say(rt, score, row, octets::part(&came, 0, k))
+    let mut came = io::Cursor::new([0u8; 64]);
+    put_command(c, command::payload(c.header, bytes), &mut came)?;
+    let n = came.position() as usize;
+    rows::say(rt, score, row, octets::part(came.get_ref(), 0, n))
 }
 
 // A byte is read as a command id and written again; an unknown one comes out as FF.
 fn id_row(rt: &impl Print, score: &mut Score, row: Row) -> io::Result<()> {
-    let mut b = [0u8; 1];
-    rows::read(row.given, &mut b);
-    let came = CommandId::try_from(b[0]).map_or(0xFF, |id| u8::from(id));
+    let [number] = rows::bytes::<1>(row.given);
+    let came = CommandId::try_from(number).map_or(0xFF, |id: CommandId| u8::from(id));
     rows::say(rt, score, Row { given: "", ..row }, &[came])
 }
 
 // A line: a letter for what is done, then what is printed, what is given and what should come. One without bars is a heading.
+// (a letter is read here alone: an enum of the letters would be matched once to be made, and here once more)
 fn line_row(rt: &impl Print, score: &mut Score, line: &str) -> io::Result<()> {
     let Some((what, rest)) = line.split_once('|') else {
         return println!(rt; "{line}");
@@ -138,8 +137,8 @@ fn line_row(rt: &impl Print, score: &mut Score, line: &str) -> io::Result<()> {
         b'H' => header_row(rt, score, row),
         b'R' => header_read_row(rt, score, row),
         b'N' => next_row(rt, score, row),
-        b'A' => answer_row(rt, score, false, row),
-        b'X' => answer_row(rt, score, true, row),
+        b'A' => answer_row(rt, score, ANSWER, row),
+        b'X' => answer_row(rt, score, ABORT, row),
         b'C' => command_read_row(rt, score, row),
         b'I' => id_row(rt, score, row),
         _ => println!(rt; "{line}"),

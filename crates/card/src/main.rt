@@ -10,8 +10,7 @@ mod tables;
 use crate::rows::Score;
 use std::io;
 
-fn codec_rows(rt: &impl Print, score: &mut Score) -> io::Result<()> {
-    let text = "Bench card: the rows that the codec decides, bytes in hex. A header is
+const CODEC_ROWS: &str = "Bench card: the rows that the codec decides, bytes in hex. A header is
 read to numbers and marks, a command to transaction, response, aborted,
 segmentation, id, size and payload, an undecodable one to its transaction.
 H header numbers 5, 0, marks 2, 2| 05 00 02 02| 16 02 00 00
@@ -27,8 +26,6 @@ H header numbers 63, 1, marks 2, 0| 3F 01 02 00| FE 04 00 00
 X abort, id and code| 07 00 00 02 06| 00 07 30 00 04 00 00 00 00 00 02 06
 C undecodable| 05 07 00| 05
 H header numbers 63, 0, marks 2, 0| 3F 00 02 00| FE 00 00 00";
-    codecs::rows(rt, score, text)
-}
 
 fn call_rows(rt: &impl Print, score: &mut Score) -> io::Result<()> {
     print!(rt; "Bench card: the rows that are calls. ")?;
@@ -41,14 +38,13 @@ fn call_rows(rt: &impl Print, score: &mut Score) -> io::Result<()> {
 
 fn table_rows(rt: &impl Print, score: &mut Score) -> io::Result<()> {
     println!(rt; "DS 301: the tables that the Rust cites, as far as it follows them.")?;
-    tables::layout_rows(rt, score)?;
-    tables::read_rows(rt, score)?;
-    tables::write_row(rt, score)
+    codecs::rows(rt, score, tables::LAYOUTS)?;
+    tables::payload_rows(rt, score)
 }
 
 fn main(rt: HostRuntime) -> io::Result<()> {
     let mut score = Score { rows: 0, differ: 0 };
-    codec_rows(&rt, &mut score)?;
+    codecs::rows(&rt, &mut score, CODEC_ROWS)?;
     call_rows(&rt, &mut score)?;
     table_rows(&rt, &mut score)?;
     println!(rt; "{} rows, {} differ", score.rows, score.differ)

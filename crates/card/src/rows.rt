@@ -4,8 +4,8 @@ ghost use Rattle.std.specs.Prelude.{◌<◌};
 use show::Bytes;
 use std::io;
 
-// As many blanks as stand before what came.
-const BLANKS: &str = "                                                    ";
+// How wide a row is before what came.
+const WIDTH: usize = 52;
 
 // How many rows were played, and how many of them differ from the card.
 #[derive(Clone, Copy)]
@@ -29,12 +29,25 @@ fn value(d: u8) -> u8
     if d < b'A' { d % 16 } else { (d % 16 + 9) % 16 }
 }
 
-// Puts the bytes of a text at the start of a buffer, and answers how many they are.
-pub fn read(text: &str, bytes: &mut [u8]) -> usize {
-    for (byte, digits) in bytes.iter_mut().zip(text.as_bytes().chunks(3)) {
-        *byte = 16 * value(octets::byte_at(digits, 1)) + value(octets::byte_at(digits, 2));
+// The byte of a blank and two digits.
+fn byte_of(digits: &[u8]) -> u8 {
+    16 * value(octets::byte_at(digits, 1)) + value(octets::byte_at(digits, 2))
+}
+
+// Puts the bytes of a text at the start of a buffer, as far as it goes, and answers them.
+// (there is no heap: each caller has a buffer as long as its longest text)
+pub fn read<'a>(text: &str, buffer: &'a mut [u8]) -> &'a [u8] {
+    for (byte, digits) in buffer.iter_mut().zip(text.as_bytes().chunks(3)) {
+        *byte = byte_of(digits);
     }
-    text.len() / 3
+    octets::part(buffer, 0, text.len() / 3)
+}
+
+// The first N bytes of a text; a byte that is not there is 0.
+pub fn bytes<const N: usize>(text: &str) -> [u8; N] {
+    let mut bytes = [0; N];
+    read(text, &mut bytes);
+    bytes
 }
 
 // Counts a row and begins its line.
@@ -48,18 +61,18 @@ pub fn verdict(rt: &impl Print, score: &mut Score, same: bool) -> io::Result<()>
 }
 
 // A row of one line: what is given, in two parts, what came and, where that differs, what the card has.
+// (a row is counted as it is printed, which no Display can do)
 pub fn say(rt: &impl Print, score: &mut Score, row: Row, came: &[u8]) -> io::Result<()> {
     let Row {
         what,
         given,
         expected,
     } = row;
-    let mut space = [0u8; 32];
-    let n = read(expected, &mut space);
-    let same = came == octets::part(&space, 0, n);
+    let mut buffer = [0; 32];
+    let same = came == read(expected, &mut buffer);
     verdict(rt, score, same)?;
-    let blanks = BLANKS.get(what.len().saturating_add(given.len())..);
-    print!(rt; "{what}{given}{}{}", blanks.unwrap_or(""), Bytes(came))?;
+    let width = WIDTH.saturating_sub(what.len());
+    print!(rt; "{what}{given:width$}{}", Bytes(came))?;
     if !same {
         print!(rt; "  expected{expected}")?;
     }

@@ -1,12 +1,12 @@
 // The layouts of the DS 301 tables that the Rust's comments cite, as far as the Rust follows them: the flags of Table 54 stand where document 01 has them.
+use crate::bench;
+use crate::calls::OBJECT;
 use crate::rows::Score;
-use crate::{bench, codecs};
 use protocol::SdoServerState;
 use std::io;
 
 // Tables 48 and 52 to 54.
-pub fn layout_rows(rt: &impl Print, score: &mut Score) -> io::Result<()> {
-    let text = "Tables 52 and 53, sequence header: numbers and marks; two reserved octets
+pub const LAYOUTS: &str = "Tables 52 and 53, sequence header: numbers and marks; two reserved octets
 H header numbers 1, 2, marks 0, 0| 01 02 00 00| 04 08 00 00
 H header numbers 1, 2, marks 1, 1| 01 02 01 01| 05 09 00 00
 H header numbers 1, 2, marks 2, 2| 01 02 02 02| 06 0A 00 00
@@ -33,25 +33,23 @@ I id 32 ReadMultipleParamByIndex| 32| 32
 I id 40 Abort| 40| 40
 I id 70 MaxSegmentSize| 70| 70
 I id 07, not in the table| 07| FF";
-    codecs::rows(rt, score, text)
-}
 
 // Table 61: a read's payload is index, sub-index and a reserved byte.
-pub fn read_rows(rt: &impl Print, score: &mut Score) -> io::Result<()> {
-    let object = [1, 0, 0x01, 0x20, 1, 0, 14, 0, 0, 0, 2, 0, 2, 0, 0x34, 0x12];
-    let text = "a new client| 00 01 00 00| 01 01 00 00 00 00 10 00 00 00 00 00| 00 00 00 00|Opening
+const READS: &str =
+    "a new client| 00 01 00 00| 01 01 00 00 00 00 10 00 00 00 00 00| 00 00 00 00|Opening
 Table 61, ReadByIndex: 2001, sub-index 1, a reserved byte of FF| 02 06 00 00 00 07 00 02 04 00 00 00 01 20 01 FF| 06 06 00 00 00 07 10 00 02 00 00 00 34 12| 00 00 00 00|dropped
 a new client| 00 01 00 00| 01 01 00 00 00 00 10 00 00 00 00 00| 00 00 00 00|Opening
 the same without the reserved byte| 02 06 00 00 00 07 00 02 03 00 00 00 01 20 01| FE 04 00 00 00 07 30 00 04 00 00 00 01 00 04 05| 00 00 00 00|dropped";
-    bench::script(rt, score, record::empty_table(), &object, &object, text)
-}
 
 // Table 59: a write's payload is the same, and then the data.
-pub fn write_row(rt: &impl Print, score: &mut Score) -> io::Result<()> {
-    let image = [1, 0, 0x01, 0x20, 1, 0, 14, 0, 0, 0, 2, 0, 2, 0, 0, 0];
-    let object = [1, 0, 0x01, 0x20, 1, 0, 14, 0, 0, 0, 2, 0, 2, 0, 0x34, 0x12];
-    let text =
-        "Table 59, WriteByIndex: 2001, sub-index 1, reserved FF, then 34 12| 02 06 00 00 00 07 00 01 06 00 00 00 01 20 01 FF 34 12| 06 06 00 00 00 07 10 00 00 00 00 00| 00 00 00 00|dropped";
+const WRITE: &str =
+    "Table 59, WriteByIndex: 2001, sub-index 1, reserved FF, then 34 12| 02 06 00 00 00 07 00 01 06 00 00 00 01 20 01 FF 34 12| 06 06 00 00 00 07 10 00 00 00 00 00| 00 00 00 00|dropped";
+
+// Tables 61 and 59.
+pub fn payload_rows(rt: &impl Print, score: &mut Score) -> io::Result<()> {
+    bench::script(rt, score, record::empty_table(), OBJECT, &OBJECT, READS)?;
+    let mut image = OBJECT;
+    octets::copy_at(&mut image, 14, &[0, 0]);
     let t = bench::in_state(0, 0, SdoServerState::Opening);
-    bench::script(rt, score, t, &image, &object, text)
+    bench::script(rt, score, t, image, &OBJECT, WRITE)
 }
