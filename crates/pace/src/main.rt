@@ -15,6 +15,31 @@ const ANSWER: usize = 1468;
 // How often it is called.
 const CALLS: u64 = 200000;
 
+// Which call is made: with the row by value, or lent.
+#[derive(Clone, Copy)]
+enum Call {
+    Request,
+    Tick,
+    Query,
+    LentRequest,
+    LentTick,
+    LentQuery,
+}
+
+// The call of a letter: where no other has it, a query, which is lent if the letter is a capital.
+impl From<u8> for Call {
+    fn from(letter: u8) -> Self {
+        match letter {
+            b'r' => Call::Request,
+            b't' => Call::Tick,
+            b'R' => Call::LentRequest,
+            b'T' => Call::LentTick,
+            _ if letter < b'a' => Call::LentQuery,
+            _ => Call::Query,
+        }
+    }
+}
+
 // The row after a query: as it was, where it has no deadline.
 fn asked(row: [Connection; 8], told: Result<Option<u64>, Refusal>) -> [Connection; 8] {
     match told {
@@ -25,7 +50,7 @@ fn asked(row: [Connection; 8], told: Result<Option<u64>, Refusal>) -> [Connectio
 
 // A call of the kind that was asked for, and the row after it.
 fn turn(
-    kind: u8,
+    call: Call,
     row: [Connection; 8],
     area: &mut [u8; AREA],
     image: &mut [u8; IMAGE],
@@ -33,13 +58,17 @@ fn turn(
 ) -> [Connection; 8] {
     let client = SdoClientInfo::Asnd { node: 1, mac: 1 };
     let request = [1, 1, 0, 0];
-    match kind {
-        b'r' => server::handle_request(row, area, image, answer, client, 0, &request).table,
-        b't' => server::tick(row, area, image, answer, 0).table,
-        b'R' => owned::handle_request(row, area, image, answer, client, 0, &request).table,
-        b'T' => owned::tick(row, area, image, answer, 0).table,
-        _ if kind < b'a' => asked(row, owned::next_action_time(row)),
-        _ => asked(row, server::next_action_time(row)),
+    match call {
+        Call::Request => {
+            server::handle_request(row, area, image, answer, client, 0, &request).table
+        }
+        Call::Tick => server::tick(row, area, image, answer, 0).table,
+        Call::Query => asked(row, server::next_action_time(row)),
+        Call::LentRequest => {
+            owned::handle_request(row, area, image, answer, client, 0, &request).table
+        }
+        Call::LentTick => owned::tick(row, area, image, answer, 0).table,
+        Call::LentQuery => asked(row, owned::next_action_time(row)),
     }
 }
 
@@ -47,11 +76,12 @@ fn main(rt: HostRuntime) -> io::Result<()> {
     let mut area = [0u8; AREA];
     let mut image = [0u8; IMAGE];
     let mut answer = [0u8; ANSWER];
-    let mut kind = [0u8; 1];
-    rt.reader().read(&mut kind)?;
+    let mut letter = [0u8; 1];
+    rt.reader().read(&mut letter)?;
+    let call = Call::from(letter[0]);
     let mut row = record::empty_table();
     for _ in 0..CALLS {
-        row = turn(kind[0], row, &mut area, &mut image, &mut answer);
+        row = turn(call, row, &mut area, &mut image, &mut answer);
     }
     let clients = if row[0].used {
         "one client"
