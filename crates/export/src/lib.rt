@@ -1,4 +1,5 @@
 // The three calls of the server as C makes them: numbers and lent bytes in and out, the table as the 320 bytes of its records. Crate `export_c` exports them.
+// (What is lent stands apart in every call, as C lends it: a request changes all of it, a tick table and answer, and the query nothing.)
 #![tactic(auto)]
 
 ghost use Rattle.std.specs.Prelude.{◌≡◌, true};
@@ -34,6 +35,7 @@ fn handle_request(
 }
 
 // A request from a client. A table of another length than 320 is refused as what is lent.
+#[tactic(auto, unfolding(crate::specs::Exported::request_bytes, picks::specs::Pick::pick))]
 pub fn sdo_handle_request(
     table: &mut [u8],
     area: &mut [u8],
@@ -69,6 +71,7 @@ fn quiet_tick<'a>(
 }
 
 // A tick on the table's bytes.
+#[tactic(auto, using(crate::proofs::Through::tick_by_row))]
 fn tick<'a>(
     t: &mut [u8; 320],
     area: &'a [u8],
@@ -88,6 +91,7 @@ fn tick<'a>(
 }
 
 // A tick of the clock.
+#[tactic(auto, unfolding(crate::specs::Exported::tick_bytes, picks::specs::Pick::pick), using(crate::proofs::Through::tick_through_lem))]
 pub fn sdo_tick<'a>(
     table: &mut [u8],
     area: &'a [u8],
@@ -104,6 +108,7 @@ pub fn sdo_tick<'a>(
 }
 
 // The earliest deadline on the table's bytes.
+#[tactic(auto, unfolding(crate::specs::Exported::query_bytes, picks::specs::Pick::pick), using(crate::proofs::Through::query_sound_bytes, crate::proofs::Through::query_unsound_bytes))]
 fn next_action_time(table: &[u8]) -> Result<Option<u64>, Refusal>
     ensures { query_answer (told_next_action result) ≡ query_bytes table.now }
 {

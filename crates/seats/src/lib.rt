@@ -70,8 +70,7 @@ impl Table for [Connection; 8] {
     }
 
     fn seat_place(&self, client: SdoClientInfo) -> Option<usize> {
-        self.iter()
-            .position(|c| connection::is_behind(*c, client))
+        self.iter().position(|c| connection::is_behind(*c, client))
     }
 
     fn record_at(&self, i: usize) -> Connection {
@@ -86,6 +85,7 @@ impl Table for [Connection; 8] {
         *self = table::replaced(*self, i, c);
     }
 
+    // (A test that the places are inside, and no number for none.)
     fn insert(&mut self, at: usize, n: usize, c: Connection) {
         if (at <= n) & (n < 8) {
             self[at..=n].rotate_right(1);

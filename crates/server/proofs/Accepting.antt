@@ -9,7 +9,6 @@ use lib.Dec.{ltb}
 use borrow.Author.Tests.{le-ltb}
 use Rattle.picks.specs.Pick.{pick}
 use Rattle.picks.proofs.Picks.{pick_t, pick_f, pick_elim}
-use Rattle.octets.specs.Octets.{splice}
 use Rattle.protocol.specs.declared.SdoClientInfo.{SdoClientInfo}
 use Rattle.protocol.specs.declared.Connection.{Connection}
 use Rattle.protocol.specs.declared.Refusal.{Refusal}
@@ -20,7 +19,7 @@ use Rattle.protocol.specs.Constants.{SHARE, ANSWER_MIN}
 use Rattle.protocol.specs.Coding.{Answer, refused, value, refusal_number}
 use Rattle.protocol.specs.ConnectionRecord.{Served, serve, told_handled, told_said, told_reply}
 use Rattle.protocol.specs.ConnectionTable.{record_of, holds, is_closed, sound_table, update, release, share_of, with_share}
-use Rattle.protocol.specs.Calls.{Verdict, refuse, accept, verdict, To, Called, frame, addressed, answer_written, answer_left}
+use Rattle.protocol.specs.Calls.{Verdict, refuse, accept, verdict, To, Called, addressed, answer_written, answer_left}
 use Rattle.protocol.specs.Request.{seated, answer_with, accepted, request_tests, on_verdict, request_of}
 use Rattle.protocol.proofs.ConnectionTable.{of_holds, holds_by, known_holds}
 use Rattle.protocol.proofs.Requests.{Accepted, accepted_by, seat_of, served_kept}

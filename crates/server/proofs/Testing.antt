@@ -5,7 +5,7 @@ use mathlib.Core.Bool.{Bool, true, false, ◌&&◌, not}
 use mathlib.Core.List.{List, [], ◌∷◌}
 use lib.ListN.{length}
 use lib.Dec.{ltb, eqb}
-use Rattle.picks.specs.Pick.{pick, first, every}
+use Rattle.picks.specs.Pick.{first, every}
 use Rattle.picks.proofs.Picks.{pick_t, pick_f}
 use Rattle.picks.proofs.Keep.{by_test, not_both, of_both}
 use Rattle.protocol.specs.declared.Refusal.{Refusal}

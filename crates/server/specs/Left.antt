@@ -7,7 +7,7 @@ use Rattle.protocol.specs.declared.Connection.{Connection}
 use Rattle.protocol.specs.Constants.{SHARE}
 use Rattle.protocol.specs.Coding.{Answer, refused, value, refusal_number}
 use Rattle.protocol.specs.ConnectionRecord.{Reply, Served, serve}
-use Rattle.protocol.specs.ConnectionTable.{holds, update, release, is_closed, share_of}
+use Rattle.protocol.specs.ConnectionTable.{release, share_of}
 use Rattle.protocol.specs.Calls.{Verdict, refuse, accept, verdict, To, Called, frame}
 use Rattle.protocol.specs.Tick.{Told, somebody, tick_tests, tick_at}
 use Rattle.connection.specs.Among.{is_gone}
@@ -19,13 +19,6 @@ holds_share c area = leb (SHARE * c.area + SHARE) (length area)
 abbrev pub served_on : Connection → List ℕ → List ℕ → ℕ → List ℕ → Served
 served_on c area image clock request =
     pick (holds_share c area) (serve c (share_of area c.area) image clock request) (record { connection = c; share = share_of area c.area; image = image; said = refused 1 })
-
--- the row with the record after the call, and without it where that is Closed
-abbrev pub settled_row : SdoClientInfo → List Connection → Connection → List Connection
-settled_row client row next = pick (is_closed next.state) (release (holds client) (update client next row)) (update client next row)
-
-abbrev pub answered_call : SdoClientInfo → List Connection → Connection → Reply → List ℕ → List ℕ → List ℕ → Called To
-answered_call client row next reply answer area image = record { returned = value (record { client = client; size = length (frame reply) }); answer = splice 0 (frame reply) answer; table = settled_row client row next; area = area; image = image }
 
 -- a tick's answer goes to the client of the due record
 abbrev pub told_to : Answer To → Answer Told

@@ -1,4 +1,5 @@
 // The server with its table as one value, a row of eight records (server.rs): request, tick and deadline query, with the refusals in order. Area, image and answer buffer are lent.
+// (Area, image and answer stand apart: a request changes all three, a tick the answer alone, and the tests none, so a struct of references would fit one of them.)
 #![tactic(auto)]
 
 ghost use Rattle.std.specs.Prelude.{◌≡◌, true, ◌+◌, ◌*◌, ◌≤◌, length, set};
@@ -7,7 +8,7 @@ ghost use Rattle.protocol.specs.Constants.{SHARE, ANSWER_MIN};
 ghost use Rattle.protocol.specs.Coding.{told_written};
 ghost use Rattle.protocol.specs.ConnectionRecord.{told_handled, told_reply, serve};
 ghost use Rattle.protocol.specs.ConnectionTable.{sound_table, share_of, with_share};
-ghost use Rattle.protocol.specs.Calls.{told_checked, verdict, accept, addressed, answer_written, answer_left};
+ghost use Rattle.protocol.specs.Calls.{verdict, accept, addressed, answer_written, answer_left};
 ghost use Rattle.protocol.specs.Request.{told_outcome, told_requested, accepted, request_of};
 ghost use Rattle.protocol.specs.Tick.{told_ticked, told_ticked_row, tick_tests, tick_at, tick_of};
 ghost use Rattle.table.specs.Row.{place_in};
@@ -41,7 +42,7 @@ fn serve_share(
     sequence_handler::handle_request(c, &mut area[from..to], image, clock, request)
 }
 
-// The same for an area of any length: one that does not hold the record's part is refused with 1.
+// The same for an area of any length: one that does not hold the record's part is refused with 1. (The part is found by its number too.)
 #[tactic(auto, unfolding(picks::specs::Pick::pick, protocol::specs::Constants::SHARE))]
 pub fn serve_record(
     c: Connection,
@@ -63,7 +64,7 @@ pub fn serve_record(
     serve_share(c, area, image, clock, request)
 }
 
-// An answer's bytes in the answer buffer; a piece stands in the record's own part of the area.
+// An answer's bytes in the answer buffer; a piece stands in the record's own part of the area. (It is found by its number too.)
 #[tactic(auto, unfolding(protocol::specs::Constants::SHARE))]
 pub fn put_answer<'a>(
     r: SdoResponseData,
@@ -170,6 +171,7 @@ fn refused<T: Copy>(x: Refusal, table: [Connection; 8]) -> Called<T>
 }
 
 // A request from a client. A refusal leaves what its row of document 01's table says.
+// (No `?` here and in `tick_at`: the row goes back with a refusal too.)
 pub fn handle_request(
     mut t: [Connection; 8],
     area: &mut [u8],
@@ -247,6 +249,7 @@ fn ticked<'a>(
 }
 
 // A tick of the clock that looks at the record at a place, or at none.
+#[tactic(auto, unfolding(crate::specs::Left::tick_at_of), using(crate::proofs::Laws::tick_tests_lem))]
 pub fn tick_at<'a>(
     t: [Connection; 8],
     place: Option<usize>,

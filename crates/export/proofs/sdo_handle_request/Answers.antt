@@ -1,15 +1,8 @@
--- Refused by the length, or the call on the bytes.
-use Rattle.export.specs.Exported.{request_bytes}
+-- The call on the bytes.
 use Rattle.export.proofs.Through.{request_through_lem}
 use Rattle.octets.proofs.Little.{low_bytes}
 use mathlib.Core.Path.{◌∙◌}
-use borrow.Author.Tests.{ne_eqb}
-use Rattle.picks.proofs.Picks.{pick_f}
 use Rattle.export.proofs.sdo_handle_request.Goals as goal
-
-pub returns-in_default : goal.returns-in_default
-unfolding request_bytes
-returns-in_default c = pick_f _ _ _ _ (ne_eqb _ _ c.in_default.ensures.cases) (rw c.refused.ensures)
 
 pub returns : goal.returns
 returns c =

@@ -4,8 +4,7 @@ use Rattle.server.proofs.Accepting.{refused_kept, accepted_made}
 use Rattle.protocol.specs.Calls.{told_checked}
 use Rattle.protocol.proofs.Ticks.{tick_accepted_by}
 use Rattle.protocol.specs.Constants.{RECORDS}
-use mathlib.Core.Path.{◌≡◌, sym, ap, ◌∙◌}
-use lib.ListN.{length}
+use mathlib.Core.Path.{sym, ap, ◌∙◌}
 use Rattle.server.proofs.admitted.Goals as goal
 
 pub accepted-requires : goal.accepted-requires

@@ -7,7 +7,7 @@ use Rattle.protocol.specs.Calls.{told_checked, Called, To}
 use Rattle.protocol.specs.Request.{on_verdict, request_of}
 use Rattle.protocol.specs.declared.Connection.{Connection}
 use mathlib.Core.List.{List}
-use mathlib.Core.Path.{refl, sym, ap, ◌∙◌}
+use mathlib.Core.Path.{sym, ap, ◌∙◌}
 use borrow.Author.Rules.{rules}
 use Rattle.server.proofs.handle_request.Goals as goal
 
