@@ -1,13 +1,12 @@
 // The command layer of one connection, by value (sequence_handler.rs, process_command_layer). The client's share of the area and the image are lent.
 #![tactic(auto)]
 
-ghost use Rattle.std.specs.Prelude.{◌≡◌, List, [], ℕ};
-ghost use Rattle.protocol.specs.Constants.{INVALID_COMMAND};
-ghost use Rattle.protocol.specs.Command.{flag_places, total_number, with_payload, decode_command};
-ghost use Rattle.protocol.specs.TransferRecord.{told_action, aborts, write_by_index};
+ghost use Rattle.std.specs.Prelude.{◌≡◌, []};
+ghost use Rattle.protocol.specs.Command.{flag_places, with_payload, decode_command};
+ghost use Rattle.protocol.specs.TransferRecord.{told_action};
 ghost use Rattle.protocol.specs.ConnectionRecord.{nil, dispatch, command_layer, on_decoding};
 
-use handlers::NIL;
+use handlers::{Asked, NIL};
 use protocol::{
     AbortCode, Action, Body, CommandId, CommandLayerHeader, Connection, SdoCommand, SdoServerState,
 };
@@ -40,13 +39,18 @@ fn dispatch(
     ensures { told_action result share.new image.new ≡ dispatch c share.old image.old clock m.header.id (with_payload m payload.now) }
 {
     let h = m.header;
+    let asked = Asked {
+        connection: c,
+        transaction: h.transaction,
+    };
     match h.id {
-        CommandId::Nil => handlers::acknowledge(c, h.transaction),
-        CommandId::ReadByIndex => {
-            handlers::read_by_index(c, share, image, clock, h.transaction, payload)
+        CommandId::Nil => asked.acknowledge(),
+        CommandId::ReadByIndex => handlers::read_by_index(asked, share, image, clock, payload),
+        CommandId::WriteByIndex => {
+            let total = m.total.unwrap_or(0);
+            downloads::write_by_index(asked, share, image, clock, h.segmentation, total, payload)
         }
-        CommandId::WriteByIndex => write_command(c, share, image, clock, m, payload),
-        CommandId::MaxSegmentSize => handlers::max_segment_size(c, h.transaction, payload),
+        CommandId::MaxSegmentSize => handlers::max_segment_size(asked, payload),
         CommandId::Abort
         | CommandId::WriteAllByIndex
         | CommandId::ReadAllByIndex
@@ -55,40 +59,8 @@ fn dispatch(
         | CommandId::FileWrite
         | CommandId::FileRead
         | CommandId::WriteMultipleParamByIndex
-        | CommandId::ReadMultipleParamByIndex => invalid_command(c, h.transaction),
+        | CommandId::ReadMultipleParamByIndex => asked.abort(AbortCode::InvalidCommand),
     }
-}
-
-// The abort of a command that cannot be served.
-fn invalid_command(c: Connection, transaction: u8) -> Action
-    ensures { (share image : List ℕ) → told_action result share image ≡ aborts c share image transaction INVALID_COMMAND }
-{
-    handlers::abort(c, transaction, u32::from(AbortCode::InvalidCommand))
-}
-
-// A WriteByIndex.
-fn write_command(
-    c: Connection,
-    share: &mut [u8],
-    image: &mut [u8],
-    clock: u64,
-    m: SdoCommand,
-    payload: &[u8],
-) -> Action
-    ensures { told_action result share.new image.new ≡ write_by_index c share.old image.old clock m.header.transaction m.header.segmentation (total_number m.total) payload.now }
-{
-    let h = m.header;
-    let total = m.total.unwrap_or(0);
-    downloads::write_by_index(
-        c,
-        share,
-        image,
-        clock,
-        h.transaction,
-        h.segmentation,
-        total,
-        payload,
-    )
 }
 
 // The command layer. The client's own abort is answered by an empty aborted Nil and resets no number, and an upload bars what does not ask for its next piece.
@@ -128,7 +100,11 @@ pub fn command_bytes(
     ensures { told_action result share.new image.new ≡ on_decoding c share.old image.old clock body.now (decode_command flag_places body.now) }
 {
     let Ok(m) = command::deserialize(body) else {
-        return invalid_command(c, fields::undecodable_transaction(body));
+        let asked = Asked {
+            connection: c,
+            transaction: fields::undecodable_transaction(body),
+        };
+        return asked.abort(AbortCode::InvalidCommand);
     };
     let payload = command::payload(m.header, body);
     process_command_layer(c, share, image, clock, m, payload)

@@ -5,7 +5,8 @@ ghost use Rattle.std.specs.Prelude.{◌≡◌, List, [], ℕ, ◌+◌, length, t
 ghost use Rattle.picks.specs.Pick.{pick};
 ghost use Rattle.protocol.specs.TransferRecord.{told_action, with_state, replies, deadline_after, write_object, write_data, write_by_index};
 
-use protocol::{AbortCode, Action, Connection, SdoServerState, SdoTransferState, Segmentation};
+use handlers::Asked;
+use protocol::{AbortCode, Action, SdoServerState, SdoTransferState, Segmentation};
 
 // Whether data at an offset goes beyond the total.
 fn is_beyond(total: u32, offset: u32, n: usize) -> bool
@@ -27,93 +28,82 @@ fn end_of(t: SdoTransferState, bytes: &[u8]) -> Option<u32>
 
 // A Segment write whose data is stored: the download goes on where it ends.
 // (the transfer by update: it names the numbers that change and no other)
-fn write_segment(
-    c: Connection,
-    image: &[u8],
-    clock: u64,
-    transaction: u8,
-    t: SdoTransferState,
-    end: u32,
-) -> Action
-    ensures { (share : List ℕ) → told_action result share image.now ≡ replies (with_state c (SdoServerState.SegmentedDownload (record t { offset = end; deadline = Some (deadline_after image.now clock) }))) share image.now transaction [] }
+fn write_segment(asked: Asked, image: &[u8], clock: u64, t: SdoTransferState, end: u32) -> Action
+    ensures { (share : List ℕ) → told_action result share image.now ≡ replies (with_state asked.connection (SdoServerState.SegmentedDownload (record t { offset = end; deadline = Some (deadline_after image.now clock) }))) share image.now asked.transaction [] }
 {
     let next = SdoTransferState {
         offset: end,
         deadline: Some(state::deadline_after(image, clock)),
         ..t
     };
-    let next = state::with_state(c, SdoServerState::SegmentedDownload(next));
-    handlers::acknowledge(next, transaction)
+    let next = state::with_state(asked.connection, SdoServerState::SegmentedDownload(next));
+    Asked {
+        connection: next,
+        ..asked
+    }
+    .acknowledge()
 }
 
 // A Complete write whose data is stored: the object is written from the share.
-fn write_complete(
-    c: Connection,
-    share: &[u8],
-    image: &mut [u8],
-    transaction: u8,
-    t: SdoTransferState,
-) -> Action
-    ensures { (clock : ℕ) → told_action result share.now image.new ≡ write_object c share.now image.old clock transaction (with_state c SdoServerState.Established) t.index t.sub (take t.total share.now) }
+fn write_complete(asked: Asked, share: &[u8], image: &mut [u8], t: SdoTransferState) -> Action
+    ensures { (clock : ℕ) → told_action result share.now image.new ≡ write_object asked.connection share.now image.old clock asked.transaction (with_state asked.connection SdoServerState.Established) t.index t.sub (take t.total share.now) }
 {
     let value = octets::part(share, 0, t.total as usize);
-    let next = state::with_state(c, SdoServerState::Established);
-    writes::write_object(c, next, image, transaction, t.index, t.sub, value)
+    let next = state::with_state(asked.connection, SdoServerState::Established);
+    writes::write_object(asked, next, image, t.index, t.sub, value)
 }
 
 // A Segment or a Complete write: their tests are the same but for one, and `complete` tells them apart.
 #[tactic(auto, unfolding(protocol::specs::TransferRecord::write_data, protocol::specs::TransferRecord::download_step, protocol::specs::TransferRecord::write_segment, protocol::specs::TransferRecord::write_complete, picks::specs::Pick::pick))]
 fn write_data(
-    c: Connection,
+    asked: Asked,
     share: &mut [u8],
     image: &mut [u8],
     clock: u64,
-    transaction: u8,
     complete: bool,
     bytes: &[u8],
 ) -> Action
-    ensures { told_action result share.new image.new ≡ write_data c share.old image.old clock transaction complete bytes.now c.state }
+    ensures { told_action result share.new image.new ≡ write_data asked.connection share.old image.old clock asked.transaction complete bytes.now asked.connection.state }
 {
-    let SdoServerState::SegmentedDownload(t) = c.state else {
-        return handlers::abort(c, transaction, AbortCode::InvalidSequence as u32);
+    let SdoServerState::SegmentedDownload(t) = asked.connection.state else {
+        return asked.abort(AbortCode::InvalidSequence);
     };
-    if t.transaction != transaction {
-        return handlers::abort(c, transaction, AbortCode::GeneralError as u32);
+    if t.transaction != asked.transaction {
+        return asked.abort(AbortCode::GeneralError);
     }
     let Some(end) = end_of(t, bytes) else {
-        return handlers::abort(c, transaction, AbortCode::LengthMisfit as u32);
+        return asked.abort(AbortCode::LengthMisfit);
     };
     if complete & (end < t.total) {
-        return handlers::abort(c, transaction, AbortCode::LengthTooLow as u32);
+        return asked.abort(AbortCode::LengthTooLow);
     }
     octets::copy_at(share, t.offset as usize, bytes);
     if complete {
-        write_complete(c, share, image, transaction, t)
+        write_complete(asked, share, image, t)
     } else {
-        write_segment(c, image, clock, transaction, t, end)
+        write_segment(asked, image, clock, t, end)
     }
 }
 
 // WriteByIndex.
 // (Segment and Complete go one way, with a bool: each with a function of its own would repeat the tests of write_data)
 pub fn write_by_index(
-    c: Connection,
+    asked: Asked,
     share: &mut [u8],
     image: &mut [u8],
     clock: u64,
-    transaction: u8,
     kind: Segmentation,
     total: u32,
     payload: &[u8],
 ) -> Action
-    ensures { told_action result share.new image.new ≡ write_by_index c share.old image.old clock transaction kind total payload.now }
+    ensures { told_action result share.new image.new ≡ write_by_index asked.connection share.old image.old clock asked.transaction kind total payload.now }
 {
     match kind {
-        Segmentation::Expedited => writes::write_expedited(c, image, transaction, payload),
+        Segmentation::Expedited => writes::write_expedited(asked, image, payload),
         Segmentation::Initiate => {
-            writes::write_initiate(c, share, image, clock, transaction, total, payload)
+            writes::write_initiate(asked, share, image, clock, total, payload)
         }
-        Segmentation::Segment => { write_data(c, share, image, clock, transaction, false, payload) }
-        Segmentation::Complete => { write_data(c, share, image, clock, transaction, true, payload) }
+        Segmentation::Segment => { write_data(asked, share, image, clock, false, payload) }
+        Segmentation::Complete => { write_data(asked, share, image, clock, true, payload) }
     }
 }

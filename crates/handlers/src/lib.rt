@@ -4,6 +4,7 @@
 ghost use Rattle.std.specs.Prelude.{◌≡◌, List, [], ℕ, length, take, ltb};
 ghost use Rattle.picks.specs.Pick.{pick};
 ghost use Rattle.octets.specs.Octets.{le};
+ghost use Rattle.protocol.specs.Constants.{abort_number};
 ghost use Rattle.protocol.specs.DictionaryImage.{value_of};
 ghost use Rattle.protocol.specs.TransferRecord.{body_bytes, body_part, told_action, aborts, replies, read_value, read_by_index, max_segment_size};
 
@@ -43,30 +44,46 @@ pub fn abort(c: Connection, transaction: u8, code: u32) -> Action
     }
 }
 
-// An Expedited answer under id Nil, whose payload of this size stands in a body.
-fn reply(c: Connection, transaction: u8, size: u16, body: Body) -> Action
-    ensures { (share image : List ℕ) → length (body_bytes share image body) ≡ size → told_action result share image ≡ replies c share image transaction (body_bytes share image body) }
-{
-    let header = CommandLayerHeader {
-        transaction,
-        size,
-        ..NIL
-    };
-    Action {
-        connection: c,
-        command: SdoCommand {
-            header,
-            total: None,
-        },
-        body,
-    }
+// What a client asks for: its record, and the transaction that the answer names.
+#[derive(Copy, Clone)]
+pub struct Asked {
+    pub connection: Connection,
+    pub transaction: u8,
 }
 
-// The empty answer to a Nil and to every write.
-pub fn acknowledge(c: Connection, transaction: u8) -> Action
-    ensures { (share image : List ℕ) → told_action result share image ≡ replies c share image transaction [] }
-{
-    reply(c, transaction, 0, Body::Nothing)
+impl Asked {
+    // Its abort, by one of our codes.
+    pub fn abort(self, code: AbortCode) -> Action
+        ensures { (share image : List ℕ) → told_action result share image ≡ aborts self.connection share image self.transaction (abort_number code) }
+    {
+        abort(self.connection, self.transaction, u32::from(code))
+    }
+
+    // An Expedited answer under id Nil, whose payload of this size stands in a body.
+    fn reply(self, size: u16, body: Body) -> Action
+        ensures { (share image : List ℕ) → length (body_bytes share image body) ≡ size → told_action result share image ≡ replies self.connection share image self.transaction (body_bytes share image body) }
+    {
+        let header = CommandLayerHeader {
+            transaction: self.transaction,
+            size,
+            ..NIL
+        };
+        Action {
+            connection: self.connection,
+            command: SdoCommand {
+                header,
+                total: None,
+            },
+            body,
+        }
+    }
+
+    // The empty answer to a Nil and to every write.
+    pub fn acknowledge(self) -> Action
+        ensures { (share image : List ℕ) → told_action result share image ≡ replies self.connection share image self.transaction [] }
+    {
+        self.reply(0, Body::Nothing)
+    }
 }
 
 // A read of an entry: its value as a part of the image, or copied into the share and sent in pieces.
@@ -74,25 +91,24 @@ pub fn acknowledge(c: Connection, transaction: u8) -> Action
 // (index and sub stay two, as the lookup takes them and the transfer keeps them)
 #[tactic(auto, unfolding(protocol::specs::TransferRecord::read_value, protocol::specs::Constants::PIECE, picks::specs::Pick::pick))]
 fn read_entry(
-    c: Connection,
+    asked: Asked,
     share: &mut [u8],
     image: &[u8],
     clock: u64,
-    transaction: u8,
     index: u16,
     sub: u8,
     e: Entry,
 ) -> Action
-    ensures { told_action result share.new image.now ≡ read_value c share.old image.now clock transaction index sub (value_of image.now e) }
+    ensures { told_action result share.new image.now ≡ read_value asked.connection share.old image.now clock asked.transaction index sub (value_of image.now e) }
 {
     let value = entries::value(image, e);
     let total = value.len() as u32;
     if total <= MAX_EXPEDITED_PAYLOAD {
-        return reply(c, transaction, total as u16, Body::Image(e.body, e.length));
+        return asked.reply(total as u16, Body::Image(e.body, e.length));
     }
     octets::copy_at(share, 0, value);
     let t = SdoTransferState {
-        transaction,
+        transaction: asked.transaction,
         total,
         offset: 0,
         index,
@@ -101,29 +117,28 @@ fn read_entry(
         retries: 0,
         stored: false,
     };
-    state::advance(c, image, clock, t)
+    state::advance(asked.connection, image, clock, t)
 }
 
 // ReadByIndex.
 #[tactic(auto, unfolding(protocol::specs::TransferRecord::read_by_index, protocol::specs::TransferRecord::read_entry, picks::specs::Pick::pick))]
 pub fn read_by_index(
-    c: Connection,
+    asked: Asked,
     share: &mut [u8],
     image: &[u8],
     clock: u64,
-    transaction: u8,
     payload: &[u8],
 ) -> Action
-    ensures { told_action result share.new image.now ≡ read_by_index c share.old image.now clock transaction payload.now }
+    ensures { told_action result share.new image.now ≡ read_by_index asked.connection share.old image.now clock asked.transaction payload.now }
 {
     if payload.len() < 4 {
-        return abort(c, transaction, AbortCode::InvalidCommand as u32);
+        return asked.abort(AbortCode::InvalidCommand);
     }
     let index: u16 = octets::number_at(payload, 0);
     let sub = octets::byte_at(payload, 2);
     match entries::readable(dictionary::lookup(image, index, sub)) {
-        Err(code) => abort(c, transaction, u32::from(code)),
-        Ok(e) => read_entry(c, share, image, clock, transaction, index, sub, e),
+        Err(code) => asked.abort(code),
+        Ok(e) => read_entry(asked, share, image, clock, index, sub, e),
     }
 }
 
@@ -140,11 +155,11 @@ fn client_size(payload: &[u8]) -> u16
 
 // MaxSegmentSize: the client's size, then ours.
 #[tactic(auto, unfolding(protocol::specs::TransferRecord::max_segment_size, protocol::specs::Constants::PIECE, octets::specs::Octets::le_bytes))]
-pub fn max_segment_size(c: Connection, transaction: u8, payload: &[u8]) -> Action
-    ensures { (share image : List ℕ) → told_action result share image ≡ max_segment_size c share image transaction payload.now }
+pub fn max_segment_size(asked: Asked, payload: &[u8]) -> Action
+    ensures { (share image : List ℕ) → told_action result share image ≡ max_segment_size asked.connection share image asked.transaction payload.now }
 {
     let ours = MAX_EXPEDITED_PAYLOAD as u16;
-    reply(c, transaction, 4, Body::Sizes(client_size(payload), ours))
+    asked.reply(4, Body::Sizes(client_size(payload), ours))
 }
 
 // An answer's payload as a part of the image for an Expedited answer, and as a part of the client's share for a piece; one made of numbers stands in neither.

@@ -5,7 +5,7 @@ ghost use Rattle.std.specs.Prelude.{◌≡◌, List, true, false, ◌||◌, ℕ,
 ghost use Rattle.protocol.specs.SequenceHeader.{send_mark, command_part};
 ghost use Rattle.protocol.specs.TransferRecord.{told_action};
 ghost use Rattle.protocol.specs.Coding.{refused, value, refusal_number};
-ghost use Rattle.protocol.specs.ConnectionRecord.{told_handled, told_reply, before_step, sequence_step, nil, is_opening, empty_in, empty_frame, after_step, on_step, on_before, serve};
+ghost use Rattle.protocol.specs.ConnectionRecord.{told_handled, told_reply, sequence_step, nil, is_opening, empty_in, empty_frame, after_step, on_step, serve};
 ghost use Rattle.protocol.specs.ConnectionTable.{told_record_ticked, tick_record};
 
 use protocol::{

@@ -77,7 +77,7 @@ fn misfit(connection: Connection) -> Left<Result<SequenceLayerHeader, Misfit>>
 }
 
 // A Closed client's frame.
-// (both headers are written out: each of the four fields is another than under marks 2, or than in the other)
+// (both headers are written out: they have one field in common, and at most one with `answer_marked`)
 #[tactic(auto, unfolding(protocol::specs::ConnectionRecord::closed_step, picks::specs::Pick::pick))]
 fn closed_step(c: Connection, h: SequenceLayerHeader) -> Left<Result<SequenceLayerHeader, Misfit>>
     ensures { told_step result ≡ closed_step c h }

@@ -5,6 +5,7 @@ ghost use Rattle.std.specs.Prelude.{◌≡◌, List, ℕ, ◌≤◌};
 ghost use Rattle.protocol.specs.ConnectionRecord.{told_reply};
 ghost use Rattle.protocol.specs.ConnectionTable.{ticks, times_out, retried, tick_upload};
 
+use handlers::Asked;
 use protocol::{
     AbortCode, Connection, Left, SdoResponseData, SdoServerState, SdoTransferState, SendConnState,
     SequenceLayerHeader,
@@ -14,7 +15,11 @@ use protocol::{
 pub fn times_out(c: Connection, t: SdoTransferState) -> Left<SdoResponseData>
     ensures { (share image : List ℕ) → ticks result.connection (told_reply result.said share image) ≡ times_out c t }
 {
-    let a = handlers::abort(c, t.transaction, u32::from(AbortCode::TimedOut));
+    let asked = Asked {
+        connection: c,
+        transaction: t.transaction,
+    };
+    let a = asked.abort(AbortCode::TimedOut);
     let next = a.connection;
     let header = SequenceLayerHeader {
         scon: SendConnState::NoConnection,

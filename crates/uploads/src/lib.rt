@@ -6,6 +6,7 @@ ghost use Rattle.protocol.specs.Command.{id_byte, with_payload};
 ghost use Rattle.protocol.specs.TransferRecord.{told_action};
 ghost use Rattle.protocol.specs.ConnectionRecord.{upload_command};
 
+use handlers::Asked;
 use protocol::{AbortCode, Action, CommandId, Connection, SdoCommand, SdoTransferState};
 
 // Whether a command of an upload's transaction asks for the next piece.
@@ -27,11 +28,15 @@ pub fn upload_command(
     ensures { (share p : List ℕ) → told_action result share image.now ≡ upload_command c share image.now clock t (with_payload m p) }
 {
     let h = m.header;
+    let asked = Asked {
+        connection: c,
+        transaction: h.transaction,
+    };
     if t.transaction != h.transaction {
-        return handlers::abort(c, h.transaction, AbortCode::GeneralError as u32);
+        return asked.abort(AbortCode::GeneralError);
     }
     if asks_next(h.id, h.response) {
         return state::advance(c, image, clock, t);
     }
-    handlers::abort(c, h.transaction, AbortCode::InvalidSequence as u32)
+    asked.abort(AbortCode::InvalidSequence)
 }

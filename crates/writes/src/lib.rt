@@ -5,43 +5,47 @@ ghost use Rattle.std.specs.Prelude.{◌≡◌, List, ℕ, min};
 ghost use Rattle.protocol.specs.Constants.{OFFSET_MAX};
 ghost use Rattle.protocol.specs.TransferRecord.{told_action, write_object, write_expedited, write_initiate};
 
+use handlers::Asked;
 use protocol::{AbortCode, Action, Connection, SHARE, SdoServerState, SdoTransferState};
 
 // A write of an object's value with its checks; `next` is the record after it.
 // (index and sub stay two, as the lookup takes them)
 #[tactic(auto, unfolding(protocol::specs::TransferRecord::write_object, protocol::specs::TransferRecord::write_entry))]
 pub fn write_object(
-    c: Connection,
+    asked: Asked,
     next: Connection,
     image: &mut [u8],
-    transaction: u8,
     index: u16,
     sub: u8,
     bytes: &[u8],
 ) -> Action
-    ensures { (share : List ℕ) (clock : ℕ) → told_action result share image.new ≡ write_object c share image.old clock transaction next index sub bytes.now }
+    ensures { (share : List ℕ) (clock : ℕ) → told_action result share image.new ≡ write_object asked.connection share image.old clock asked.transaction next index sub bytes.now }
 {
     match entries::writable(dictionary::lookup(image, index, sub), bytes.len()) {
-        Err(code) => handlers::abort(c, transaction, u32::from(code)),
+        Err(code) => asked.abort(code),
         Ok(e) => {
             entries::write(image, e, bytes);
-            handlers::acknowledge(next, transaction)
+            Asked {
+                connection: next,
+                ..asked
+            }
+            .acknowledge()
         }
     }
 }
 
 // An Expedited write.
 #[tactic(auto, unfolding(protocol::specs::TransferRecord::write_expedited, picks::specs::Pick::pick))]
-pub fn write_expedited(c: Connection, image: &mut [u8], transaction: u8, payload: &[u8]) -> Action
-    ensures { (share : List ℕ) (clock : ℕ) → told_action result share image.new ≡ write_expedited c share image.old clock transaction payload.now }
+pub fn write_expedited(asked: Asked, image: &mut [u8], payload: &[u8]) -> Action
+    ensures { (share : List ℕ) (clock : ℕ) → told_action result share image.new ≡ write_expedited asked.connection share image.old clock asked.transaction payload.now }
 {
     if payload.len() < 4 {
-        return handlers::abort(c, transaction, AbortCode::InvalidCommand as u32);
+        return asked.abort(AbortCode::InvalidCommand);
     }
     let index: u16 = octets::number_at(payload, 0);
     let sub = octets::byte_at(payload, 2);
     let data = octets::rest(payload, 4);
-    write_object(c, c, image, transaction, index, sub, data)
+    write_object(asked, asked.connection, image, index, sub, data)
 }
 
 // The offset behind an Initiate's data.
@@ -55,29 +59,28 @@ fn first_offset(n: usize) -> u32
 // An Initiate write: its first data is stored in the share.
 #[tactic(auto, unfolding(protocol::specs::TransferRecord::write_initiate, picks::specs::Pick::pick, protocol::specs::Constants::SHARE))]
 pub fn write_initiate(
-    c: Connection,
+    asked: Asked,
     share: &mut [u8],
     image: &[u8],
     clock: u64,
-    transaction: u8,
     total: u32,
     payload: &[u8],
 ) -> Action
-    ensures { told_action result share.new image.now ≡ write_initiate c share.old image.now clock transaction total payload.now }
+    ensures { told_action result share.new image.now ≡ write_initiate asked.connection share.old image.now clock asked.transaction total payload.now }
 {
     if payload.len() < 4 {
-        return handlers::abort(c, transaction, AbortCode::InvalidCommand as u32);
+        return asked.abort(AbortCode::InvalidCommand);
     }
     if total == 0 {
-        return handlers::abort(c, transaction, AbortCode::LengthMisfit as u32);
+        return asked.abort(AbortCode::LengthMisfit);
     }
     if SHARE < total {
-        return handlers::abort(c, transaction, AbortCode::OutOfMemory as u32);
+        return asked.abort(AbortCode::OutOfMemory);
     }
     let first = octets::rest(payload, 4);
     octets::copy_at(share, 0, first);
     let t = SdoTransferState {
-        transaction,
+        transaction: asked.transaction,
         total,
         offset: first_offset(first.len()),
         index: octets::number_at(payload, 0),
@@ -86,6 +89,10 @@ pub fn write_initiate(
         retries: 0,
         stored: false,
     };
-    let next = state::with_state(c, SdoServerState::SegmentedDownload(t));
-    handlers::acknowledge(next, transaction)
+    let next = state::with_state(asked.connection, SdoServerState::SegmentedDownload(t));
+    Asked {
+        connection: next,
+        ..asked
+    }
+    .acknowledge()
 }
