@@ -13,6 +13,7 @@ ghost use Rattle.packed.specs.Packed.{is_quiet};
 use protocol::{Connection, SdoClientInfo};
 
 // Whether a record is used.
+#[tactic(auto, unfolding(format::specs::Format::record_of))]
 fn is_used(r: &[u8; 40]) -> bool
     ensures { result ≡ (record_of r.now).used }
 {
@@ -28,6 +29,7 @@ fn is_nobody(r: &[u8; 40]) -> bool
 
 // Whether a record is unused and fresh, but for its area number.
 // (Asked of a record made of the bytes, as `connection` asks it, a tick of no client takes 34 % more instructions.)
+#[tactic(auto, unfolding(format::specs::Format::record_of), using(crate::proofs::Bytes::closed_is))]
 fn is_fresh(r: &[u8; 40]) -> bool
     ensures { result ≡ is_fresh (record_of r.now) }
 {
@@ -89,6 +91,7 @@ fn sound_state(r: &[u8; 40]) -> bool
 
 // Sequence numbers at most 63, and a sound transfer.
 // (Asked of a record made of the bytes, as `transfers` asks it, a deadline query of eight clients takes 87 % more instructions.)
+#[tactic(auto, unfolding(format::specs::Format::record_of, protocol::specs::ConnectionTable::sound_record))]
 fn is_sound_record(r: &[u8; 40]) -> bool
     ensures { result ≡ sound_record (record_of r.now) }
 {
@@ -160,6 +163,7 @@ pub fn seat_place(t: &[u8; 320], client: SdoClientInfo) -> Option<usize>
 
 // When a record is due, an unused one never.
 // (Asked of a record made of the bytes, as `transfers` asks it, a deadline query of eight clients takes 92 % more instructions.)
+#[tactic(auto, unfolding(picks::specs::Pick::pick), using(crate::proofs::Bytes::due_is))]
 fn deadline_of(r: &[u8; 40]) -> Option<u64>
     ensures { result ≡ deadline_of (record_of r.now) }
 {

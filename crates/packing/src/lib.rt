@@ -63,7 +63,7 @@ fn is_plain(t: &[u8; 320]) -> bool
     record::rows(t).iter().all(|r| plain_record(r))
 }
 
-// The bytes are those of the records that they say. (By `*t = table_bytes(..)` every call fills 320 bytes with 0 first, and a tick takes 2 % more instructions.)
+// The bytes are those of the records that they say. (By `*t = table_bytes(..)` every call fills 320 bytes with 0 first, which takes 40 instructions.)
 #[tactic(auto, unfolding(picks::specs::Pick::pick))]
 pub fn tidy(t: &mut [u8; 320])
     ensures { t.new ≡ table_bytes (table_of t.old) }

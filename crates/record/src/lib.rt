@@ -10,6 +10,7 @@ ghost use Rattle.format.specs.Format.{state_number, rows, client_of, transfer_by
 use protocol::{Connection, SdoClientInfo, SdoServerState, SdoTransferState};
 
 // The deadline of a record's bytes.
+// (A part of the transfer that stands alone: who asks when a record is due makes no transfer of its bytes.)
 pub fn deadline_of(s: &[u8; 40]) -> Option<u64>
     ensures { result ≡ deadline_of s.now }
 {
@@ -21,6 +22,7 @@ pub fn deadline_of(s: &[u8; 40]) -> Option<u64>
 }
 
 // The transfer of a record's bytes.
+#[tactic(auto, unfolding(format::specs::Format::transfer_of))]
 pub fn transfer_of(s: &[u8; 40]) -> SdoTransferState
     ensures { result ≡ transfer_of s.now }
 {
@@ -58,6 +60,7 @@ pub fn client_of(s: &[u8; 40]) -> SdoClientInfo
 }
 
 // The record in its bytes.
+#[tactic(auto, unfolding(format::specs::Format::record_of))]
 pub fn record_of(s: &[u8; 40]) -> Connection
     ensures { result ≡ record_of s.now }
 {
@@ -84,8 +87,7 @@ pub fn rows(t: &[u8; 320]) -> &[[u8; 40]]
 pub fn table_of(s: &[u8]) -> [Connection; 8]
     ensures { result ≡ table_of s.now }
 {
-    let mut bytes = [0; 320];
-    octets::copy_at(&mut bytes, 0, s);
+    let bytes = octets::bytes_at(s, 0);
     let rows = rows(&bytes);
     std::array::from_fn(|i| record_of(&rows[i]))
 }

@@ -1,6 +1,4 @@
 -- By the state: without a transfer, and with one.
-use borrow.Author.Tests.{ltb-true}
-use Rattle.picks.proofs.Keep.{of_both}
 use Rattle.packing.proofs.Plain.{same_state_blank, same_state_busy}
 use Rattle.packing.proofs.plain_state.Goals as goal
 

@@ -8,9 +8,6 @@ use borrow.Author.Rules.{rules}
 use native.Mathlib.Omega.{arith}
 use Rattle.record.proofs.store_record.Goals as goal
 
-pub returns-then-i-lt8 : goal.returns-then-i-lt8
-returns-then-i-lt8 c = c.put_record.ensures
-
 pub returns-else-i-lt8 : goal.returns-else-i-lt8
 returns-else-i-lt8 c =
     let a = c.args in

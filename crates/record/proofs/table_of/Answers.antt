@@ -10,6 +10,6 @@ pub returns : goal.returns
 unfolding table_of rows
 returns c =
     let made = c.from_fn.ensures.items in
-    let b = c.copy_at.new.dst in
+    let b = c.bytes_at-bytes.result in
     let e : c.from_fn.result ≡ table_of b = fill_by_all (λ i. record_of (get_or (rows 8 0 b) i [])) c.from_fn.result 8 (fresh 0) made.long (λ k h. let called = made.at k (fresh 0) h in search rules) in
-    e ∙ ap table_of c.copy_at.ensures ∙ table_agrees _ _ (padded_agrees 320 c.args.s.now)
+    e ∙ ap table_of c.bytes_at-bytes.ensures ∙ table_agrees _ _ (padded_agrees 320 c.args.s.now)

@@ -24,7 +24,7 @@ returns c =
     let l = c.loop-i in
     let a = c.args in
     elim c.loop-i-test.branch [
-      else-loop-i-test w ↦ rw (w.sound-is, l.invariant.0) (sound_end a.image.now _ (a.n - l.i) (omega (arith, w.loop-i-test)) _ _ _ l.invariant.2)
+      | else-loop-i-test w ↦ rw (w.sound-is, l.invariant.0) (sound_end a.image.now _ (a.n - l.i) (omega (arith, w.loop-i-test)) _ _ _ l.invariant.2)
       | then-loop-i-test+then-not-sound w ↦
-        rw (w.sound-is, w.if-not-sound.true) (sound_not a.image.now a.n l.i w.entry_in-e.result (omega (arith, w.loop-i-test)) w.entry_in-e.ensures _ _ _ l.invariant.2 (flag w.is_sound-sound.ensures w.if-not-sound.true))
+          rw (w.sound-is, w.if-not-sound.true) (sound_not a.image.now a.n l.i w.entry_in-e.result (omega (arith, w.loop-i-test)) w.entry_in-e.ensures _ _ _ l.invariant.2 (flag w.is_sound-sound.ensures w.if-not-sound.true))
     ]
