@@ -3,7 +3,7 @@
 
 ghost use Rattle.std.specs.Prelude.{◌≤◌};
 
-use input::{INPUT, Window};
+use input::{INPUT, Player, Window};
 use protocol::{
     BufferTooShort, CommandError, CommandId, CommandLayerHeader, ReceiveConnState, SdoCommand,
     Segmentation, SendConnState, SequenceLayerHeader,
@@ -217,18 +217,31 @@ fn play(item: &[u8], out: &mut impl Write) -> io::Result<bool> {
     Ok(true)
 }
 
+// The codecs' player, with where it writes.
+#[derive(Drop)]
+struct Codec<W> {
+    out: W,
+}
+
+impl<W: Write> Player for Codec<W> {
+    fn length_of(&self, bytes: &[u8]) -> usize {
+        length_of(bytes)
+    }
+
+    fn play(&mut self, item: &[u8]) -> io::Result<bool> {
+        play(item, &mut self.out)
+    }
+}
+
 // Plays the input as far as it goes, and answers where it ended.
+// (replay's player has buffers more, and an output of another size)
 fn played(rt: &(impl Input + Print + AllocGlobal)) -> io::Result<Window> {
     let mut input = [0; INPUT];
     let mut reader = rt.reader();
-    let mut out = BufWriter::new(rt.alloc(), io::writer(rt))?;
-    let window = input::played(
-        &mut reader,
-        &mut input,
-        length_of,
-        |item| play(item, &mut out),
-    )?;
-    out.flush()?;
+    let out = BufWriter::new(rt.alloc(), io::writer(rt))?;
+    let mut codec = Codec { out };
+    let window = input::played(&mut reader, &mut input, &mut codec)?;
+    codec.out.flush()?;
     Ok(window)
 }
 

@@ -3,11 +3,11 @@ use Rattle.std.proofs.Common.{◌≡◌, ℕ, ◌<◌, ◌≤◌, Bool, List, le
 use Rattle.std.specs.Io.KnownBytes.{Consumes}
 use Rattle.input.specs.declared.Window.{Window}
 use Rattle.input.specs.Runs.{unplayed_of, behind, Read, refilled_bytes, refilled_window}
-use Rattle.input.specs.Turns.{Run, run, Turn, Turns}
+use Rattle.input.specs.Turns.{Run, run, Turns}
 use Rattle.input.specs.Turns.Turn.{reads, plays}
 use Rattle.input.specs.Turns.Turns.{and}
 
-module _ {P : Type 0} (IsLong : List ℕ → ℕ → Type 0) (Plays : P → List ℕ → Bool → P → Type 0) (s : Run P) (p : P) (left : Option (List ℕ)) (input : List ℕ) (w : Window) (so_far : Turns IsLong Plays s (run p left input w)) (bytes : List ℕ) (there : bytes ≡ unplayed_of input w) (n : ℕ) (long : IsLong bytes n) where
+module _ {P : Type 0} (IsLong : P → List ℕ → ℕ → Type 0) (Plays : P → List ℕ → Bool → P → Type 0) (s : Run P) (p : P) (left : Option (List ℕ)) (input : List ℕ) (w : Window) (so_far : Turns IsLong Plays s (run p left input w)) (bytes : List ℕ) (there : bytes ≡ unplayed_of input w) (n : ℕ) (long : IsLong p bytes n) where
   pub reads_more : (left' : Option (List ℕ)) (input' : List ℕ) (w' : Window) → length bytes < n → (f : Read) × (input' ≡ refilled_bytes f input w) × (w' ≡ refilled_window f input w) × Consumes left left' f.got → Turns IsLong Plays s (run p left' input' w')
   reads_more left' input' w' few (f, ei, ew, came) =
       rw (ei, ew) (and s _ _ so_far (reads p left left' input w n f (rw there at long) (rw there at few) came))

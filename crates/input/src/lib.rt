@@ -1,11 +1,10 @@
 // The input that a script is read from: a buffer of which a part is not played yet.
 #![tactic(auto)]
 
-ghost use Rattle.std.specs.Prelude.{◌≡◌, ◌+◌, ◌-◌, ◌≤◌, ◌++◌, length, take, drop, Ok, IfOk};
-ghost use Rattle.std.specs.Fn.{FnReturnsAt, CalledAt};
+ghost use Rattle.std.specs.Prelude.{◌≡◌, ℕ, ◌+◌, ◌-◌, ◌≤◌, Bool, List, ◌++◌, length, take, drop, ⊤, IfOk};
 ghost use Rattle.std.specs.Io.KnownBytes.{Consumes};
 ghost use Rattle.input.specs.Runs.{at_start, unplayed_of, behind, Read, refilled_bytes, refilled_window};
-ghost use Rattle.input.specs.Turns.{run, Turns};
+ghost use Rattle.input.specs.Turns.{Run, run, Turns};
 
 use std::io;
 
@@ -94,20 +93,30 @@ pub fn refilled<R: io::Read>(reader: &mut R, input: &mut [u8; INPUT], w: Window)
     }
 }
 
-// Plays the items of the input as far as it goes, and answers where that ends: each turn reads more, or plays an item, where a play answers whether it is one that is known. A loop has to end: it counts its turns up to a number that no run reaches.
-pub fn played<R, L, P>(
+// What plays the items of a script: a program's own, with what it is lent and where it writes.
+pub trait Player {
+    // Holds of a player, the bytes from an item on, and how long the item may be.
+    ghost IsLong: { Self → List ℕ → ℕ → Type 0 } = { λ _ _ _. ⊤ };
+
+    // Holds of a player, an item, whether it is one that is known, and the player that a play may leave.
+    ghost Plays: { Self → List ℕ → Bool → Self → Type 0 } = { λ _ _ _ _. ⊤ };
+
+    // How long the item at the start of these bytes is; more than they are where they end before the bytes that tell it.
+    fn length_of(&self, bytes: &[u8]) -> usize
+        ensures { IsLong self.now bytes.now result };
+
+    // Plays an item, and answers whether it is one that is known.
+    fn play(&mut self, item: &[u8]) -> io::Result<bool>
+        ensures { IfOk result (λ known. Plays self.old item.now known self.new) };
+}
+
+// Plays the items of the input as far as it goes, and answers where that ends: each turn reads more, or plays an item. A loop has to end: it counts its turns up to a number that no run reaches.
+pub fn played<R: io::Read, P: Player>(
     reader: &mut R,
     input: &mut [u8; INPUT],
-    length: L,
-    mut play: P,
+    player: &mut P,
 ) -> io::Result<Window>
-where
-    R: io::Read,
-    L: Fn(&[u8]) -> usize,
-    P: FnMut(&[u8]) -> io::Result<bool>,
-    requires length { L.IsAlwaysCallable length }
-    requires play { P.IsAlwaysCallable play }
-    ensures { IfOk result (λ w. (last : P) × Turns (FnReturnsAt L.Fn length) (λ p item known q. CalledAt P.FnMut p item (Ok known) q) (run play (R.remaining reader.old) input.old at_start) (run last (R.remaining reader.new) input.new w)) }
+    ensures { IfOk result (λ w. (end : Run P) × Turns P.IsLong P.Plays (run player.old (R.remaining reader.old) input.old at_start) end × (end ≡ run player.new (R.remaining reader.new) input.new w)) }
 {
     let mut window = begun();
     for _ in 0..u64::MAX {
@@ -115,11 +124,11 @@ where
             break;
         }
         let bytes = unplayed(input, window);
-        let n = length(bytes);
+        let n = player.length_of(bytes);
         if bytes.len() < n {
             window = refilled(reader, input, window);
         } else {
-            let known = play(octets::part(bytes, 0, n))?;
+            let known = player.play(octets::part(bytes, 0, n))?;
             window = passed(window, n, known);
         }
     }

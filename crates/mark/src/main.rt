@@ -7,38 +7,53 @@ mod verdict;
 
 use crate::sheet::{Call, Sheet};
 use crate::verdict::{Break, End};
-use input::{INPUT, Window};
+use input::{INPUT, Player, Window};
 use marking::Exercise;
 use script::{ANSWER, Done, IMAGE, LENT_AREA, Lent};
 use std::{fmt, io};
 
-// Plays an item on what is lent, shows it on the sheet, and answers whether it is one that is known.
-fn play(
-    rt: &impl Print,
-    item: &[u8],
-    lent: &mut Lent,
-    area: &mut [u8; LENT_AREA],
-    image: &mut [u8; IMAGE],
-    sheet: &mut Sheet,
-) -> io::Result<bool> {
-    let before = lent.table;
-    let mut answer = [0; ANSWER];
-    let played = script::play(item, *lent, area, image, &mut answer);
-    *lent = played.lent;
-    match played.done {
-        Done::Unknown => return Ok(false),
-        Done::Lends => sheet.lend_step(rt, item)?,
-        Done::Calls(told) => {
-            let call = Call {
-                item,
-                before,
-                after: lent.table,
-                answer: &answer,
-            };
-            sheet.call_step(rt, call, told)?
-        }
+// The sheet's player: what is lent, of which buffers, the sheet so far, and where it is printed.
+#[derive(Drop)]
+struct Marking<'a, P> {
+    rt: &'a P,
+    lent: Lent,
+    area: [u8; LENT_AREA],
+    image: [u8; IMAGE],
+    sheet: Sheet,
+}
+
+impl<P: Print> Player for Marking<'_, P> {
+    fn length_of(&self, bytes: &[u8]) -> usize {
+        items::length_of(bytes)
     }
-    Ok(true)
+
+    // What is played is shown on the sheet.
+    fn play(&mut self, item: &[u8]) -> io::Result<bool> {
+        let before = self.lent.table;
+        let mut answer = [0; ANSWER];
+        let played = script::play(
+            item,
+            self.lent,
+            &mut self.area,
+            &mut self.image,
+            &mut answer,
+        );
+        self.lent = played.lent;
+        match played.done {
+            Done::Unknown => return Ok(false),
+            Done::Lends => self.sheet.lend_step(self.rt, item)?,
+            Done::Calls(told) => {
+                let call = Call {
+                    item,
+                    before,
+                    after: self.lent.table,
+                    answer: &answer,
+                };
+                self.sheet.call_step(self.rt, call, told)?
+            }
+        }
+        Ok(true)
+    }
 }
 
 // Where the recording ends, if it is not whole: in the middle of an item, or at one that is unknown.
@@ -83,20 +98,21 @@ fn close(rt: &(impl Print + Eprint), written: io::Result<()>) -> io::Result<()> 
 // The sheet of the recording on standard input, but for the end of its last line.
 fn sheet_of(rt: &(impl Input + Print), e: Exercise) -> io::Result<()> {
     let mut input = [0u8; INPUT];
-    let mut area = [0u8; LENT_AREA];
-    let mut image = [0u8; IMAGE];
     let mut reader = rt.reader();
-    let mut lent = script::begun();
-    let mut sheet = Sheet::blank(e);
+    let mut marking = Marking {
+        rt,
+        lent: script::begun(),
+        area: [0; LENT_AREA],
+        image: [0; IMAGE],
+        sheet: Sheet::blank(e),
+    };
     print!(rt; "{}", Title(e))?;
-    let window = input::played(&mut reader, &mut input, items::length_of, |item| {
-        play(rt, item, &mut lent, &mut area, &mut image, &mut sheet)
-    })?;
+    let window = input::played(&mut reader, &mut input, &mut marking)?;
     let ended = ended(&input, window);
     print!(rt;
         "{}",
         End {
-            sheet: &sheet,
+            sheet: &marking.sheet,
             ended
         }
     )

@@ -3,42 +3,64 @@
 
 mod transcript;
 
-use input::{INPUT, Window};
+use input::{INPUT, Player, Window};
 use script::{ANSWER, Done, IMAGE, LENT_AREA, Lent};
 use std::io;
 use std::io::{BufWriter, Write};
 
-// Plays an item on what is lent, writes a call's part of the transcript, and answers whether the item is one that is known.
-fn play(
-    item: &[u8],
-    lent: &mut Lent,
-    area: &mut [u8; LENT_AREA],
-    image: &mut [u8; IMAGE],
-    out: &mut impl Write,
-) -> io::Result<bool> {
-    let mut answer = [0; ANSWER];
-    let played = script::play(item, *lent, area, image, &mut answer);
-    *lent = played.lent;
-    match played.done {
-        Done::Unknown => return Ok(false),
-        Done::Lends => {}
-        Done::Calls(told) => transcript::put_entry(told, played.lent, &answer, area, image, out)?,
+// The server's player: what is lent, of which buffers, and where the transcript goes.
+#[derive(Drop)]
+struct Replay<W> {
+    lent: Lent,
+    area: [u8; LENT_AREA],
+    image: [u8; IMAGE],
+    out: W,
+}
+
+impl<W: Write> Player for Replay<W> {
+    fn length_of(&self, bytes: &[u8]) -> usize {
+        items::length_of(bytes)
     }
-    Ok(true)
+
+    // A call's part of the transcript is written.
+    fn play(&mut self, item: &[u8]) -> io::Result<bool> {
+        let mut answer = [0; ANSWER];
+        let played = script::play(
+            item,
+            self.lent,
+            &mut self.area,
+            &mut self.image,
+            &mut answer,
+        );
+        self.lent = played.lent;
+        match played.done {
+            Done::Unknown => return Ok(false),
+            Done::Lends => {}
+            Done::Calls(told) => transcript::put_entry(
+                told,
+                self.lent,
+                &answer,
+                &self.area,
+                &self.image,
+                &mut self.out,
+            )?,
+        }
+        Ok(true)
+    }
 }
 
 // Plays the input as far as it goes, and answers where it ended.
 fn played(rt: &(impl Input + Print + AllocGlobal)) -> io::Result<Window> {
     let mut input = [0u8; INPUT];
-    let mut area = [0u8; LENT_AREA];
-    let mut image = [0u8; IMAGE];
     let mut reader = rt.reader();
-    let mut out = BufWriter::with_capacity(rt.alloc(), 65536, io::writer(rt))?;
-    let mut lent = script::begun();
-    let window = input::played(&mut reader, &mut input, items::length_of, |item| {
-        play(item, &mut lent, &mut area, &mut image, &mut out)
-    })?;
-    out.flush()?;
+    let mut replay = Replay {
+        lent: script::begun(),
+        area: [0; LENT_AREA],
+        image: [0; IMAGE],
+        out: BufWriter::with_capacity(rt.alloc(), 65536, io::writer(rt))?,
+    };
+    let window = input::played(&mut reader, &mut input, &mut replay)?;
+    replay.out.flush()?;
     Ok(window)
 }
 
