@@ -4,7 +4,7 @@
 ghost use Rattle.std.specs.Prelude.{◌≡◌, true, ◌&&◌, ◌<◌, get_or, IfSome};
 ghost use Rattle.picks.specs.Pick.{every};
 ghost use Rattle.protocol.specs.declared.SdoClientInfo.TheVariants.{Asnd};
-ghost use Rattle.protocol.specs.ConnectionTable.{same_client, is_fresh, fresh, holds, place_of, sound_state, sound_record, deadline_of, earliest, ordered, areas_once, sound_table};
+ghost use Rattle.protocol.specs.ConnectionTable.{before, same_client, is_fresh, fresh, holds, place_of, sound_state, sound_record, deadline_of, earliest, ordered, areas_once, sound_table};
 ghost use Rattle.format.specs.Format.{record_of, is_table, table_of};
 ghost use Rattle.connection.specs.Among.{follows, is_behind};
 ghost use Rattle.table.specs.Row.{place_in, unused_place, seat_place};
@@ -36,6 +36,22 @@ fn is_fresh(r: &[u8; 40]) -> bool
     !is_used(r) & is_nobody(r) & (r[10] == 0) & (r[11] == 63) & (r[12] == 0)
 }
 
+// Whether a client stands before another, as their derived order has it. (By `<` itself a tick with eight clients takes 5 % more instructions, and a deadline query 16 %.)
+fn is_before(a: SdoClientInfo, b: SdoClientInfo) -> bool
+    ensures { result ≡ before a b }
+{
+    match a {
+        SdoClientInfo::Asnd { node, mac } => match b {
+            SdoClientInfo::Asnd { node: n, mac: m } => (node < n) | ((node == n) & (mac < m)),
+            SdoClientInfo::Udp { ip: _, port: _ } => true,
+        },
+        SdoClientInfo::Udp { ip, port } => match b {
+            SdoClientInfo::Asnd { node: _, mac: _ } => false,
+            SdoClientInfo::Udp { ip: i, port: p } => (ip < i) | ((ip == i) & (port < p)),
+        },
+    }
+}
+
 // Whether a record may stand next behind another.
 // (Asked of records made of the bytes, as `connection` asks it, a deadline query of no client takes four times the instructions.)
 #[tactic(auto, unfolding(picks::specs::Pick::pick, format::specs::Format::record_of))]
@@ -43,7 +59,7 @@ fn follows(x: &[u8; 40], y: &[u8; 40]) -> bool
     ensures { result ≡ follows (record_of x.now) (record_of y.now) }
 {
     if is_used(x) {
-        !is_used(y) || record::client_of(x) < record::client_of(y)
+        !is_used(y) || is_before(record::client_of(x), record::client_of(y))
     } else {
         is_fresh(x) & !is_used(y)
     }
@@ -216,7 +232,7 @@ pub fn area_at(t: &[u8; 320], i: usize) -> u8
 }
 
 // The record at a place; past the end a fresh one.
-// (By this area_at would make a record for one of its bytes.)
+// (Where the area number alone is asked for, area_at reads its byte.)
 pub fn record_at(t: &[u8; 320], i: usize) -> Connection
     ensures { result ≡ get_or (table_of t.now) i (fresh 0) }
 {
