@@ -13,7 +13,7 @@ fn is_own(r: Reading, client: SdoClientInfo) -> bool
 }
 
 // The place of a client's running reading.
-// (one call of the library: a function for rows of any type would take the test as a closure, which is what position does)
+// (here and below one call of the library: a function for rows of any type would take the test as a closure, which is what position does)
 pub fn own_place(rows: [Reading; 8], client: SdoClientInfo) -> Option<usize>
     ensures { result ≡ position (is_own client) rows }
 {
