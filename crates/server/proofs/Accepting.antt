@@ -1,12 +1,12 @@
 -- A request that passed the tests, on a table in any form: what its parts give together is what the definitions leave.
-use Prim.Native.Nat.{ℕ, ◌+◌, ◌*◌, ◌<◌, ◌≤◌}
+use Prim.Native.Nat.{ℕ, ◌+◌, ◌*◌, ◌<◌}
 use native.Mathlib.Omega.{arith}
 use mathlib.Core.Path.{◌≡◌, refl, sym, ap, ◌∙◌}
 use mathlib.Core.Bool.{Bool, true, false, ◌&&◌}
 use mathlib.Core.List.{List}
 use lib.ListN.{length}
 use lib.Dec.{ltb}
-use borrow.Author.Tests.{le-ltb}
+use borrow.Author.Tests.{le-leb, le-ltb}
 use Rattle.picks.specs.Pick.{pick}
 use Rattle.picks.proofs.Picks.{pick_t, pick_f, pick_elim}
 use Rattle.protocol.specs.declared.SdoClientInfo.{SdoClientInfo}
@@ -28,6 +28,7 @@ use Rattle.seats.specs.declared.Seat.{Seat}
 use Rattle.seats.specs.Seats.{seat_in, back_row, settled_in}
 use Rattle.seats.proofs.Seats.{seat_own, seat_back, seat_dropped}
 use Rattle.server.specs.Admitted.{Admitted}
+use Rattle.server.specs.Left.{holds_share}
 use Rattle.server.specs.Tables.{LeftIn, left_in, number_of, made_of, kept_or_made}
 use Rattle.server.proofs.Calls.{share_inside, accepted_is, stored_is}
 use Rattle.server.proofs.Testing.{early, in_tests, request_small}
@@ -101,8 +102,8 @@ module _ {T : Type 0} (made : List Connection → T) (client : SdoClientInfo) (c
   own = ap (λ (z : Seat). z.own) es ∙ seat_own client clock request image answer R area ok place free v.1 v.2 v.3
 
   -- the area holds the record's own part
-  pub own_inside : SHARE * c.area + SHARE ≤ length area
-  own_inside = share_inside client clock request image answer R area S c refl own ok
+  pub own_inside : holds_share c area ≡ true
+  own_inside = le-leb (SHARE * c.area + SHARE) (length area) (share_inside client clock request image answer R area S c refl own ok)
 
   abbrev on_own : Connection → Served
   on_own k = serve k (share_of area k.area) image clock request

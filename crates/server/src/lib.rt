@@ -124,11 +124,10 @@ fn accepted<T: Table>(
     clock: u64,
     request: &[u8],
 ) -> Result<Answered, Refusal>
-    requires { Admitted client place free clock request.now image.old answer.old (T.rows t.old) area.old }
-    ensures { left_in (told_outcome result) answer.new t.new area.new image.new ≡ made_of T.made (accepted client clock request.now image.old answer.old (T.rows t.old) area.old) }
+    ensures { Admitted client place free clock request.now image.old answer.old (T.rows t.old) area.old → left_in (told_outcome result) answer.new t.new area.new image.new ≡ made_of T.made (accepted client clock request.now image.old answer.old (T.rows t.old) area.old) }
 {
     let s = seats::seat_of(t, client, place, free);
-    let served = serve_share(s.own, area, image, clock, request);
+    let served = serve_record(s.own, area, image, clock, request);
     let next = served.connection;
     match served.said {
         Ok(r) => answered(t, s, next, client, r, area, image, answer),
@@ -149,8 +148,7 @@ pub fn admitted<T: Table>(
     clock: u64,
     request: &[u8],
 ) -> Result<Answered, Refusal>
-    requires { verdict (tick_tests clock image.old answer.old (T.rows t.old) area.old) ≡ accept }
-    ensures { left_in (told_outcome result) answer.new t.new area.new image.new ≡ kept_or_made T.made t.old (request_of client clock request.now image.old answer.old (T.rows t.old) area.old) }
+    ensures { verdict (tick_tests clock image.old answer.old (T.rows t.old) area.old) ≡ accept → left_in (told_outcome result) answer.new t.new area.new image.new ≡ kept_or_made T.made t.old (request_of client clock request.now image.old answer.old (T.rows t.old) area.old) }
 {
     let place = t.place_of(client);
     let free = t.unused_place();

@@ -28,17 +28,6 @@ returns-in_err-check_lent c =
     let e : told_outcome c.from_residual.result ≡ refused (refusal_number x) = let r = c.from_residual.ensures in search rules in
     ap (λ r. left_in r a.answer.now t a.area.now a.image.now) e ∙ refused_kept table_bytes t client a.clock a.request.now a.image.now a.answer.now row a.area.now x (lent_verdict a.clock a.image.now a.answer.now row a.area.now (eight_row known t) client a.request.now x v)
 
-pub admitted-requires : goal.admitted-requires
-admitted-requires c =
-    let a = c.args in
-    let known = is_client a.who.now in
-    let t = a.t.now in
-    let row = row_of known t in
-    let k = sound_flag known t _ _ c.is_client.ensures c.is_sound.ensures in
-    let w = sym (ap told_checked (sym c.in_ok-check_lent.was) ∙ c.check_lent.ensures ∙ tick_tests_lem a.clock a.image.now a.answer.now row a.area.now (eight_row known t) _ k) in
-    let row-eq = row_is known t (tick_accepted_by a.clock a.image.now a.answer.now row a.area.now w).table_sound in
-    sym (ap (λ r. verdict (tick_tests a.clock a.image.now a.answer.now r a.area.now)) row-eq) ∙ w
-
 pub returns : goal.returns
 returns c =
     let a = c.args in
@@ -48,4 +37,5 @@ returns c =
     let k = sound_flag known t _ _ c.is_client.ensures c.is_sound.ensures in
     let v = sym (ap told_checked (sym c.in_ok-check_lent.was) ∙ c.check_lent.ensures ∙ tick_tests_lem a.clock a.image.now a.answer.now row a.area.now (eight_row known t) _ k) in
     let row-eq = row_is known t (tick_accepted_by a.clock a.image.now a.answer.now row a.area.now v).table_sound in
-    c.admitted.ensures ∙ ap (λ k. kept_or_made table_bytes t (request_of k a.clock a.request.now a.image.now a.answer.now (table_of t) a.area.now)) c.client_in-client.ensures ∙ ap (λ r. kept_or_made table_bytes t (request_of (client_of a.who.now) a.clock a.request.now a.image.now a.answer.now r a.area.now)) (sym row-eq)
+    let w = sym (ap (λ r. verdict (tick_tests a.clock a.image.now a.answer.now r a.area.now)) row-eq) ∙ v in
+    c.admitted.ensures w ∙ ap (λ k. kept_or_made table_bytes t (request_of k a.clock a.request.now a.image.now a.answer.now (table_of t) a.area.now)) c.client_in-client.ensures ∙ ap (λ r. kept_or_made table_bytes t (request_of (client_of a.who.now) a.clock a.request.now a.image.now a.answer.now r a.area.now)) (sym row-eq)

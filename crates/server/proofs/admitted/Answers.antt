@@ -7,26 +7,19 @@ use Rattle.protocol.specs.Constants.{RECORDS}
 use mathlib.Core.Path.{sym, ap, ◌∙◌}
 use Rattle.server.proofs.admitted.Goals as goal
 
-pub accepted-requires : goal.accepted-requires
-unfolding RECORDS
-accepted-requires g c =
-    let a = c.args in
-    let row = g.T.Table.rows a.t.now in
-    let long = (tick_accepted_by a.clock a.image.now a.answer.now row a.area.now c.requires).eight in
-    (sym (ap told_checked (sym c.in-Ok.is) ∙ c.check_frame.ensures ∙ frame_verdict a.clock a.image.now a.answer.now row a.area.now long c.requires a.client a.request.now _ (full_is a.client row _ _ _ _ long c.place_of-place.ensures.place c.place_of-place.ensures.inside c.unused_place-free.ensures.place c.unused_place-free.ensures.inside c.is_none.ensures c.is_none-2.ensures)), c.place_of-place.ensures.place, c.place_of-place.ensures.inside, c.unused_place-free.ensures.place)
-
 pub returns-in-Err : goal.returns-in-Err
 unfolding RECORDS
-returns-in-Err g c =
+returns-in-Err g c v =
     let a = c.args in
     let row = g.T.Table.rows a.t.now in
-    let long = (tick_accepted_by a.clock a.image.now a.answer.now row a.area.now c.requires).eight in
-    refused_kept g.T.Table.made a.t.now a.client a.clock a.request.now a.image.now a.answer.now row a.area.now c.in-Err.x (ap told_checked (sym c.in-Err.is) ∙ c.check_frame.ensures ∙ frame_verdict a.clock a.image.now a.answer.now row a.area.now long c.requires a.client a.request.now _ (full_is a.client row _ _ _ _ long c.place_of-place.ensures.place c.place_of-place.ensures.inside c.unused_place-free.ensures.place c.unused_place-free.ensures.inside c.is_none.ensures c.is_none-2.ensures))
+    let long = (tick_accepted_by a.clock a.image.now a.answer.now row a.area.now v).eight in
+    refused_kept g.T.Table.made a.t.now a.client a.clock a.request.now a.image.now a.answer.now row a.area.now c.in-Err.x (ap told_checked (sym c.in-Err.is) ∙ c.check_frame.ensures ∙ frame_verdict a.clock a.image.now a.answer.now row a.area.now long v a.client a.request.now _ (full_is a.client row _ _ _ _ long c.place_of-place.ensures.place c.place_of-place.ensures.inside c.unused_place-free.ensures.place c.unused_place-free.ensures.inside c.is_none.ensures c.is_none-2.ensures))
 
 pub returns-in-Ok : goal.returns-in-Ok
 unfolding RECORDS
-returns-in-Ok g c =
+returns-in-Ok g c v =
     let a = c.args in
     let row = g.T.Table.rows a.t.now in
-    let long = (tick_accepted_by a.clock a.image.now a.answer.now row a.area.now c.requires).eight in
-    accepted_made g.T.Table.made a.t.now a.client a.clock a.request.now a.image.now a.answer.now row a.area.now _ c.accepted.ensures (ap told_checked (sym c.in-Ok.is) ∙ c.check_frame.ensures ∙ frame_verdict a.clock a.image.now a.answer.now row a.area.now long c.requires a.client a.request.now _ (full_is a.client row _ _ _ _ long c.place_of-place.ensures.place c.place_of-place.ensures.inside c.unused_place-free.ensures.place c.unused_place-free.ensures.inside c.is_none.ensures c.is_none-2.ensures))
+    let long = (tick_accepted_by a.clock a.image.now a.answer.now row a.area.now v).eight in
+    let w = ap told_checked (sym c.in-Ok.is) ∙ c.check_frame.ensures ∙ frame_verdict a.clock a.image.now a.answer.now row a.area.now long v a.client a.request.now _ (full_is a.client row _ _ _ _ long c.place_of-place.ensures.place c.place_of-place.ensures.inside c.unused_place-free.ensures.place c.unused_place-free.ensures.inside c.is_none.ensures c.is_none-2.ensures) in
+    accepted_made g.T.Table.made a.t.now a.client a.clock a.request.now a.image.now a.answer.now row a.area.now _ (c.accepted.ensures (sym w, c.place_of-place.ensures.place, c.place_of-place.ensures.inside, c.unused_place-free.ensures.place)) w

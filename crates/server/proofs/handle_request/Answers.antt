@@ -11,11 +11,6 @@ use mathlib.Core.Path.{sym, ap, ◌∙◌}
 use borrow.Author.Rules.{rules}
 use Rattle.server.proofs.handle_request.Goals as goal
 
-pub admitted-outcome-requires : goal.admitted-outcome-requires
-admitted-outcome-requires c =
-    let a = c.args in
-    sym (c.check_lent.ensures ∙ tick_tests_lem a.clock a.image.now a.answer.now a.t a.area.now (search rules) _ c.is_sound.ensures) ∙ ap told_checked c.in-Ok.is
-
 pub returns-in-Err : goal.returns-in-Err
 unfolding request_of on_verdict
 returns-in-Err c =
@@ -30,4 +25,5 @@ called_of l = record { returned = l.returned; answer = l.answer; table = l.table
 pub returns-in-Ok : goal.returns-in-Ok
 returns-in-Ok c =
     let a = c.args in
-    ap called_of (c.admitted-outcome.ensures ∙ row_left a.client a.clock a.request.now a.image.now a.answer.now a.t a.area.now)
+    let v = sym (c.check_lent.ensures ∙ tick_tests_lem a.clock a.image.now a.answer.now a.t a.area.now (search rules) _ c.is_sound.ensures) ∙ ap told_checked c.in-Ok.is in
+    ap called_of (c.admitted-outcome.ensures v ∙ row_left a.client a.clock a.request.now a.image.now a.answer.now a.t a.area.now)
