@@ -7,7 +7,7 @@ use mathlib.Core.List.{List}
 use lib.ListN.{length}
 use lib.Dec.{eqb}
 use borrow.Author.Tests.{lt-ltb, eq-eqb}
-use Rattle.picks.specs.Pick.{pick, every, count}
+use Rattle.picks.specs.Pick.{pick}
 use Rattle.picks.proofs.Picks.{pick_elim, pick_t, pick_f}
 use Rattle.picks.proofs.Keep.{both}
 use Rattle.octets.specs.Octets.{le_bytes}
@@ -17,7 +17,6 @@ use Rattle.protocol.specs.declared.Connection.{Connection}
 use Rattle.protocol.specs.Constants.{RECORDS}
 use Rattle.protocol.specs.Coding.{Answer, refused, value, refusal_number}
 use Rattle.protocol.specs.DictionaryImage.{sound_image}
-use Rattle.protocol.specs.ConnectionTable.{sound_table, ordered, areas_once}
 use Rattle.protocol.specs.Calls.{Called, To, Verdict, refuse, accept, verdict, lent_wrong}
 use Rattle.protocol.specs.Request.{request_tests, accepted, on_verdict, request_of}
 use Rattle.protocol.specs.Tick.{tick_tests, tick_told, ticked, on_tick_verdict, tick_of}
@@ -28,6 +27,7 @@ use Rattle.protocol.proofs.StaysSound.{accepted_numbers}
 use Rattle.server.proofs.Accepting.{late_kept}
 use Rattle.format.specs.Format.{client_of, is_client, is_table, table_bytes}
 use Rattle.outcomes.specs.Outcomes.{only, request_answer, tick_answer, query_answer, no_table, row_of, table_left}
+use Rattle.outcomes.proofs.Rows.{no_table_unsound}
 use Rattle.export.specs.Exported.{Left, left, left_by, request_bytes, tick_bytes, query_bytes}
 
 -- a table of another length than 320 is refused with 1, and all is left
@@ -97,10 +97,6 @@ tick_refusal_leaves clock image answer table area =
     pick_elim (LeavesAll table area image answer) (eqb (length table) 320) _ _ (λ e. tick_leaves clock image answer (row_of true table) table area) (λ e l h. refl)
 
 -- 320 bytes that are no table, or a client that is none: 3, after 1 and 2, and all is left
-pub no_table_unsound : sound_table no_table ≡ false
-unfolding sound_table ordered areas_once every count pick RECORDS
-no_table_unsound = refl
-
 abbrev pub no_table_number : List ℕ → List ℕ → List ℕ → ℕ
 no_table_number image answer area = pick (lent_wrong no_table area answer) 1 (pick (not (sound_image image)) 2 3)
 

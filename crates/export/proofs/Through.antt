@@ -27,7 +27,8 @@ use Rattle.outcomes.specs.declared.SdoAnswer.{SdoAnswer}
 use Rattle.outcomes.specs.Outcomes.{request_answer, tick_answer, query_answer, row_of, table_left}
 use Rattle.export.specs.Exported.{left, left_by, request_bytes, tick_bytes, query_bytes}
 use Rattle.server.specs.Tables.{left_in, kept_or_made}
-use Rattle.export.proofs.Testing.{left_of, kept_is, eight_row, sound_row, row_is}
+use Rattle.outcomes.proofs.Rows.{eight_row, sound_row, row_is}
+use Rattle.export.proofs.Testing.{left_of, kept_is}
 
 -- a client's number laid as its eight bytes
 pub client_laid : (client : ℕ) → splice 0 (le_bytes 8 client) (replicate 8 0) ≡ le_bytes 8 client

@@ -28,10 +28,9 @@ fn handle_request(
 ) -> Result<Answered, Refusal>
     ensures { left_in (told_outcome result) answer.new t.new area.new image.new ≡ kept_or_made table_bytes t.old (request_of (client_of who.now) clock request.now image.old answer.old (row_of (is_client who.now) t.old) area.old) }
 {
-    let sound = clients::is_client(who) & packed::is_sound(t);
+    let known = clients::is_client(who);
     let client = clients::client_in(who);
-    refusals::check_lent(sound, area, image, answer, clock)?;
-    server::admitted(t, area, image, answer, client, clock, request)
+    server::request_on(t, known, area, image, answer, client, clock, request)
 }
 
 // A request from a client. A table of another length than 320 is refused as what is lent.

@@ -1,12 +1,14 @@
 // A client's seat in a table of eight records, a row or the records' 320 bytes: where its record stands or belongs, the record, and how it is put back after a call.
 #![tactic(auto)]
 
-ghost use Rattle.std.specs.Prelude.{◌≡◌, ◌&&◌, ◌<◌, List, get_or, set, ltb, leb, IfSome};
+ghost use Rattle.std.specs.Prelude.{◌≡◌, Bool, true, ◌&&◌, ◌<◌, List, length, get_or, set, ltb, leb, IfSome};
 ghost use Rattle.picks.specs.Pick.{pick};
 ghost use Rattle.protocol.specs.declared.Connection.{Connection};
-ghost use Rattle.protocol.specs.ConnectionTable.{fresh, place_of};
+ghost use Rattle.protocol.specs.ConnectionTable.{fresh, place_of, sound_table};
 ghost use Rattle.table.specs.Row.{place_in, unused_place, seat_place, put_in, dropped_at};
 ghost use Rattle.format.specs.Format.{table_bytes, table_of};
+ghost use Rattle.outcomes.specs.Outcomes.{no_table, row_of};
+ghost use Rattle.outcomes.proofs.Rows.{row_if, row_is};
 ghost use Rattle.seats.specs.Seats.{seat_in, back_row, settled_in};
 
 use protocol::{Connection, SdoClientInfo};
@@ -18,6 +20,17 @@ pub trait Table {
 
     // The table that is made of records.
     ghost made: { List Connection → Self };
+
+    // The records that a call reads. Where the table holds none, or what the call was given beside it is of no kind (`known` is no), they are records of no sound table: such a call is refused as one on a table that is not sound.
+    ghost read: { Bool → Self → List Connection };
+
+    // Where they are sound, they are those that the table holds.
+    ghost laws: { (known : Bool) (t : Self) → sound_table (read known t) ≡ true → read known t ≡ rows t };
+
+    // Whether a call reads a sound table, which is of eight records in any case.
+    fn is_sound(&self) -> bool
+        ensures flag { (known : Bool) → (known && result) ≡ sound_table (read known self.now) }
+        ensures eight { (known : Bool) → length (read known self.now) ≡ 8 };
 
     // The place of the client's record.
     fn place_of(&self, client: SdoClientInfo) -> Option<usize>
@@ -61,6 +74,15 @@ impl Table for [Connection; 8] {
 
     ghost made = { λ t. t };
 
+    ghost read = { λ known t. pick known t no_table };
+
+    ghost laws = { λ known t. row_if t known };
+
+    #[tactic(auto, using(outcomes::proofs::Rows::sound_if, outcomes::proofs::Rows::eight_if))]
+    fn is_sound(&self) -> bool {
+        table::is_sound(*self)
+    }
+
     fn place_of(&self, client: SdoClientInfo) -> Option<usize> {
         table::place_of(*self, client)
     }
@@ -103,6 +125,15 @@ impl Table for [u8; 320] {
     ghost rows = { table_of };
 
     ghost made = { table_bytes };
+
+    ghost read = { row_of };
+
+    ghost laws = { row_is };
+
+    #[tactic(auto, using(outcomes::proofs::Rows::sound_row, outcomes::proofs::Rows::eight_row))]
+    fn is_sound(&self) -> bool {
+        packed::is_sound(self)
+    }
 
     fn place_of(&self, client: SdoClientInfo) -> Option<usize> {
         packed::place_of(self, client)

@@ -139,7 +139,7 @@ fn accepted<T: Table>(
 }
 
 // A request on a table that was found sound, with the other tests of what is lent passed. Refusals 1 to 7 leave the table as it was.
-pub fn admitted<T: Table>(
+fn admitted<T: Table>(
     t: &mut T,
     area: &mut [u8],
     image: &mut [u8],
@@ -158,18 +158,24 @@ pub fn admitted<T: Table>(
     }
 }
 
-// A refused call, and the row that it leaves.
-fn refused<T: Copy>(x: Refusal, table: [Connection; 8]) -> Called<T>
-    ensures { result ≡ record { outcome = Err x; table = table } }
+// A request on a table in any form. Refusals 1 to 7 leave the table as it was.
+pub fn request_on<T: Table>(
+    t: &mut T,
+    known: bool,
+    area: &mut [u8],
+    image: &mut [u8],
+    answer: &mut [u8],
+    client: SdoClientInfo,
+    clock: u64,
+    request: &[u8],
+) -> Result<Answered, Refusal>
+    ensures { left_in (told_outcome result) answer.new t.new area.new image.new ≡ kept_or_made T.made t.old (request_of client clock request.now image.old answer.old (T.read known t.old) area.old) }
 {
-    Called {
-        outcome: Err(x),
-        table,
-    }
+    refusals::check_lent(known & t.is_sound(), area, image, answer, clock)?;
+    admitted(t, area, image, answer, client, clock, request)
 }
 
 // A request from a client. A refusal leaves what its row of document 01's table says.
-// (No `?` here and in `tick_at`: the row goes back with a refusal too.)
 pub fn handle_request(
     mut t: [Connection; 8],
     area: &mut [u8],
@@ -181,12 +187,17 @@ pub fn handle_request(
 ) -> Called<Answered>
     ensures { told_requested result answer.new area.new image.new ≡ request_of client clock request.now image.old answer.old t area.old }
 {
-    match refusals::check_lent(table::is_sound(t), area, image, answer, clock) {
-        Ok(()) => {
-            let outcome = admitted(&mut t, area, image, answer, client, clock, request);
-            Called { outcome, table: t }
-        }
-        Err(x) => refused(x, t),
+    let outcome = request_on(&mut t, true, area, image, answer, client, clock, request);
+    Called { outcome, table: t }
+}
+
+// A refused call, and the row that it leaves.
+fn refused<T: Copy>(x: Refusal, table: [Connection; 8]) -> Called<T>
+    ensures { result ≡ record { outcome = Err x; table = table } }
+{
+    Called {
+        outcome: Err(x),
+        table,
     }
 }
 
@@ -247,6 +258,7 @@ fn ticked<'a>(
 }
 
 // A tick of the clock that looks at the record at a place, or at none.
+// (No `?`: the row goes back with a refusal too.)
 #[tactic(auto, unfolding(crate::specs::Left::tick_at_of), using(crate::proofs::Laws::tick_tests_lem))]
 pub fn tick_at<'a>(
     t: [Connection; 8],

@@ -1,5 +1,6 @@
 -- Refused by a test, or nothing to do.
-use Rattle.export.proofs.Testing.{tick_refused_early, eight_row, sound_row, row_is}
+use Rattle.outcomes.proofs.Rows.{eight_row, sound_row, row_is}
+use Rattle.export.proofs.Testing.{tick_refused_early}
 use Rattle.export.proofs.Quiet.{quiet_left}
 use Rattle.server.proofs.Laws.{tick_tests_lem}
 use Rattle.protocol.proofs.Ticks.{tick_accepted_by}
