@@ -20,7 +20,6 @@ fn row_of(table: &[Connection]) -> Result<&[Connection; 8], Refusal>
 }
 
 // A request from a client. A refusal leaves what its row of document 01's table says.
-// (load, call and save by one function with the call as a closure does not prove: of an answer that a closure borrows nothing is known behind its call)
 pub fn handle_request(
     table: &mut [Connection],
     area: &mut [u8],
@@ -32,13 +31,14 @@ pub fn handle_request(
 ) -> Result<Answered, Refusal>
     ensures { called (told_outcome result) answer.new table.new area.new image.new ≡ request_of client clock request.now image.old answer.old table.old area.old }
 {
-    let row = *row_of(table)?;
-    let called = server::handle_request(row, area, image, answer, client, clock, request);
-    table.copy_from_slice(&called.table);
-    called.outcome
+    let Some(row) = table.as_mut_array() else {
+        return Err(Refusal::Lent);
+    };
+    server::request_on(row, true, area, image, answer, client, clock, request)
 }
 
 // A tick of the clock.
+// (the row is loaded and saved here: a tick drops records of a row by value)
 pub fn tick<'t, 'a, 'b>(
     table: &'t mut [Connection],
     area: &'a [u8],

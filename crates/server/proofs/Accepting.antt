@@ -88,6 +88,10 @@ module _ (client : SdoClientInfo) (clock : ℕ) (request image answer : List ℕ
           let late = λ (n : ℕ) (f : c.returned ≡ refused n). (accepted_numbers client clock request image answer row area (accepted_by client clock request image answer row area e) n f).0 in
           ap (λ b. left_in c.returned c.answer b c.area c.image) (late_made c.returned row c.table late)
 
+-- what is left of a row is what a call leaves
+abbrev pub called_of : LeftIn (List Connection) → Called To
+called_of l = record { returned = l.returned; answer = l.answer; table = l.table; area = l.area; image = l.image }
+
 module _ {T : Type 0} (made : List Connection → T) (client : SdoClientInfo) (clock : ℕ) (request image answer : List ℕ) (R : List Connection) (area : List ℕ) (place free : Option ℕ) (v : Admitted client place free clock request image answer R area) (s : Seat) (es : s ≡ seat_in client place free R) where
   abbrev S : List Connection
   S = seated client clock request image answer R area
