@@ -6,8 +6,8 @@ use lib.ListN.{length}
 use Rattle.protocol.specs.declared.Connection.{Connection}
 use Rattle.protocol.specs.ConnectionTable.{is_due, chosen}
 use Rattle.protocol.specs.Tick.{tick_of}
-use Rattle.table.specs.Row.{place_in, due_in}
-use Rattle.table.proofs.Walk.{told_in}
+use Rattle.row.specs.Row.{place_in, due_in}
+use Rattle.row.proofs.Walk.{told_in}
 use Rattle.server.specs.Left.{tick_at_of}
 use Rattle.server.proofs.Calls.{tick_at_chosen}
 

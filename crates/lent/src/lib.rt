@@ -49,7 +49,7 @@ pub fn tick<'t, 'a, 'b>(
     ensures { called (told_ticked result) answer.new table.new area.now image.now ≡ tick_of clock image.now answer.old table.old area.now }
 {
     let row = *row_of(table)?;
-    let due = table::due_place(table, clock);
+    let due = row::due_place(table, clock);
     let called = server::tick_at(row, due, area, image, answer, clock);
     table.copy_from_slice(&called.table);
     called.outcome
@@ -60,7 +60,7 @@ pub fn next_action_time(table: &[Connection]) -> Result<Option<u64>, Refusal>
     ensures { told_next_action result ≡ query_of table.now }
 {
     if table::is_sound(*row_of(table)?) {
-        return Ok(table::earliest(table));
+        return Ok(row::earliest(table));
     }
     Err(Refusal::Table)
 }

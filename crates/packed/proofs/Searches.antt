@@ -9,14 +9,15 @@ use Rattle.std.specs.Prelude.{Option, None, position}
 use Rattle.std.specs.List.{list_all, prefix_len, IsAllAdjacentAnswer}
 use Rattle.std.specs.List as L
 use Rattle.picks.specs.Pick.{first, fold, every}
-use Rattle.picks.proofs.Keep.{by_test, every_map, every_follows}
+use Rattle.picks.proofs.Keep.{by_test, every_map, every_follows, all_every}
 use Rattle.protocol.specs.declared.Connection.{Connection}
 use Rattle.protocol.specs.ConnectionTable.{fresh, is_fresh, ordered, sound_record, earlier, deadline_of, earliest}
 use Rattle.protocol.proofs.ConnectionTable.{fresh_eq, unused_first, ordered_rest}
 use Rattle.connection.specs.Among.{follows}
-use Rattle.table.specs.Row.{place_in}
+use Rattle.row.specs.Row.{place_in}
+use Rattle.row.proofs.Walk.{place_first}
 use Rattle.table.proofs.Order.{ordered_sorted}
-use Rattle.table.proofs.Walk.{every_all, fold_same, place_first}
+use Rattle.table.proofs.Walk.{fold_same}
 use Rattle.format.specs.Format.{record_of, rows, table_of}
 
 first_map : {A B : Type 0} (f : B → Bool) (h : A → B) (xs : List A) → first f (map h xs) ≡ first (λ x. f (h x)) xs
@@ -36,7 +37,7 @@ module _ (f : Connection → Bool) (s : List ℕ) where
   -- a test of every row
   pub every_row : list_all row_test (rows 8 0 s) ≡ every f (table_of s)
   unfolding table_of
-  every_row = every_all row_test (rows 8 0 s) ∙ sym (every_map f record_of (rows 8 0 s))
+  every_row = all_every row_test (rows 8 0 s) ∙ sym (every_map f record_of (rows 8 0 s))
 
 -- the record at a place
 map_at : (xs : List (List ℕ)) (i : ℕ) (d : Connection) (e : List ℕ) → i < length xs → get_or (map record_of xs) i d ≡ record_of (get_or xs i e)

@@ -7,7 +7,8 @@ ghost use Rattle.protocol.specs.declared.SdoClientInfo.TheVariants.{Asnd};
 ghost use Rattle.protocol.specs.ConnectionTable.{before, same_client, is_fresh, fresh, holds, place_of, sound_state, sound_record, deadline_of, earliest, ordered, areas_once, sound_table};
 ghost use Rattle.format.specs.Format.{record_of, is_table, table_of};
 ghost use Rattle.connection.specs.Among.{follows, is_behind};
-ghost use Rattle.table.specs.Row.{place_in, unused_place, seat_place};
+ghost use Rattle.row.specs.Row.{place_in, seat_place};
+ghost use Rattle.table.specs.Row.{unused_place};
 ghost use Rattle.packed.specs.Packed.{is_quiet};
 
 use protocol::{Connection, SdoClientInfo};

@@ -13,7 +13,8 @@ use Rattle.octets.proofs.Splice.{splice_fits, splice_out}
 use Rattle.picks.proofs.Shift.{shift_down}
 use Rattle.protocol.specs.declared.Connection.{Connection}
 use Rattle.protocol.specs.ConnectionTable.{fresh}
-use Rattle.table.specs.Row.{put_in, dropped_at}
+use Rattle.row.specs.Row.{put_in}
+use Rattle.table.specs.Row.{dropped_at}
 use Rattle.table.proofs.Moves.{shift_in}
 use Rattle.table.proofs.Release.{dropped_made}
 use Rattle.format.specs.Format.{byte_at, record_bytes, record_of, table_bytes, table_of}

@@ -4,7 +4,8 @@
 ghost use Rattle.std.specs.Prelude.{◌≡◌, true, ◌&&◌, take, drop, set, ltb, leb};
 ghost use Rattle.picks.specs.Pick.{pick};
 ghost use Rattle.octets.specs.Octets.{splice};
-ghost use Rattle.table.specs.Row.{put_in, dropped_at};
+ghost use Rattle.row.specs.Row.{put_in};
+ghost use Rattle.table.specs.Row.{dropped_at};
 ghost use Rattle.format.specs.Format.{table_bytes, table_of};
 ghost use Rattle.packing.specs.Plain.{SameClient, NoTransfer, SameTransfer, SameState, SameRecord};
 

@@ -1,15 +1,12 @@
 -- A table's bytes cut into rows of 40, what a test of every row says, and transfers' parts.
 use Prim.Native.Nat.{ℕ, zero, suc, ◌+◌}
 use mathlib.Core.Path.{◌≡◌, refl}
-use mathlib.Core.Bool.{Bool}
-use mathlib.Core.List.{List, [], ◌∷◌}
+use mathlib.Core.List.{List}
 use mathlib.Core.Logic.{◌≢◌}
 use lib.ListN.{drop, replicate}
 use lib.Seq.{drop-drop}
 use Rattle.std.specs.Prelude.{Option, None, Some, is_some, unwrap_or}
-use Rattle.std.specs.List.{list_all}
 use Rattle.std.specs.Simd.{first_chunks}
-use Rattle.picks.specs.Pick.{every}
 use Rattle.protocol.specs.declared.SdoTransferState.{SdoTransferState}
 use Rattle.protocol.specs.declared.SdoServerState.{SdoServerState}
 use Rattle.protocol.specs.declared.SdoServerState.TheVariants.{Closed, Opening, Established, SegmentedDownload, SegmentedUpload}
@@ -19,11 +16,6 @@ pub rows_cut : (n at : ℕ) (s : List ℕ) → first_chunks 40 n (drop at s) ≡
 unfolding rows
 rows_cut zero at s = refl
 rows_cut (suc n) at s = rw (drop-drop 40 at s, rows_cut n (at + 40) s)
-
-pub all_every : {A : Type 0} (f : A → Bool) (xs : List A) → list_all f xs ≡ every f xs
-unfolding every
-all_every f [] = refl
-all_every f (x ∷ xs) = rw (all_every f xs)
 
 -- a deadline's flag and time
 pub flag_some : (d : Option ℕ) → flag (is_some d) ≡ deadline_flag d

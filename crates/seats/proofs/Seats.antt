@@ -18,7 +18,8 @@ use Rattle.protocol.specs.ConnectionTable.{fresh, is_unused, unused_of, joining,
 use Rattle.protocol.specs.Request.{seated}
 use Rattle.protocol.proofs.ConnectionTable.{known_place, known_holds, place_unique, join_own, join_sound, join_length, same_client_refl}
 use Rattle.protocol.proofs.Requests.{Accepted, seat_of}
-use Rattle.table.specs.Row.{place_in, unused_place, seat_place, put_in, dropped_at}
+use Rattle.row.specs.Row.{place_in, seat_place, put_in}
+use Rattle.table.specs.Row.{unused_place, dropped_at}
 use Rattle.table.proofs.Moves.{seat_before, joined_made}
 use Rattle.table.proofs.Release.{dropped_in, dropped_made}
 use Rattle.table.proofs.Sound.{sound_join, sound_release}

@@ -4,7 +4,8 @@ use Rattle.picks.specs.Pick.{pick}
 use Rattle.protocol.specs.declared.SdoClientInfo.{SdoClientInfo}
 use Rattle.protocol.specs.declared.Connection.{Connection}
 use Rattle.protocol.specs.ConnectionTable.{fresh, joining, is_closed}
-use Rattle.table.specs.Row.{place_in, seat_place, put_in, dropped_at}
+use Rattle.row.specs.Row.{place_in, seat_place, put_in}
+use Rattle.table.specs.Row.{dropped_at}
 use Rattle.seats.specs.declared.Place.{Place}
 use Rattle.seats.specs.declared.Place.TheVariants.{Known, Joining}
 use Rattle.seats.specs.declared.Seat.{Seat}

@@ -5,7 +5,8 @@ ghost use Rattle.std.specs.Prelude.{◌≡◌, Bool, true, ◌&&◌, ◌<◌, Li
 ghost use Rattle.picks.specs.Pick.{pick};
 ghost use Rattle.protocol.specs.declared.Connection.{Connection};
 ghost use Rattle.protocol.specs.ConnectionTable.{fresh, place_of, sound_table};
-ghost use Rattle.table.specs.Row.{place_in, unused_place, seat_place, put_in, dropped_at};
+ghost use Rattle.row.specs.Row.{place_in, seat_place, put_in};
+ghost use Rattle.table.specs.Row.{unused_place, dropped_at};
 ghost use Rattle.format.specs.Format.{table_bytes, table_of};
 ghost use Rattle.outcomes.specs.Outcomes.{no_table, row_of};
 ghost use Rattle.outcomes.proofs.Rows.{row_if, row_is};
@@ -92,7 +93,7 @@ impl Table for [Connection; 8] {
     }
 
     fn seat_place(&self, client: SdoClientInfo) -> Option<usize> {
-        self.iter().position(|c| connection::is_behind(*c, client))
+        row::seat_place(*self, client)
     }
 
     fn record_at(&self, i: usize) -> Connection {
@@ -107,12 +108,8 @@ impl Table for [Connection; 8] {
         *self = table::replaced(*self, i, c);
     }
 
-    // (A test that the places are inside, and no number for none.)
     fn insert(&mut self, at: usize, n: usize, c: Connection) {
-        if (at <= n) & (n < 8) {
-            self[at..=n].rotate_right(1);
-            self[at] = c;
-        }
+        *self = row::inserted(*self, at, n, c);
     }
 
     fn drop_at(&mut self, i: usize) {

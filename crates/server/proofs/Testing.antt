@@ -15,7 +15,8 @@ use Rattle.protocol.specs.declared.Connection.{Connection}
 use Rattle.protocol.specs.Coding.{refusal_number}
 use Rattle.protocol.specs.ConnectionTable.{sound_table, place_of, is_known, is_unused, unused_of}
 use Rattle.std.specs.Prelude.{Option, IfSome, is_some}
-use Rattle.table.specs.Row.{place_in, unused_place}
+use Rattle.row.specs.Row.{place_in}
+use Rattle.table.specs.Row.{unused_place}
 use Rattle.table.proofs.Walk.{none_left, told_past}
 use Rattle.protocol.specs.Calls.{Test, Verdict, refuse, accept, verdict}
 use Rattle.protocol.specs.Request.{request_tests}

@@ -5,7 +5,8 @@ use Rattle.protocol.specs.declared.Connection.{Connection}
 use Rattle.protocol.specs.ConnectionTable.{place_of}
 use Rattle.protocol.specs.Calls.{accept, verdict}
 use Rattle.protocol.specs.Request.{request_tests}
-use Rattle.table.specs.Row.{place_in, unused_place}
+use Rattle.row.specs.Row.{place_in}
+use Rattle.table.specs.Row.{unused_place}
 
 -- the request passed all tests, and the places are the client's and the first unused one's
 abbrev pub Admitted : SdoClientInfo → Option ℕ → Option ℕ → ℕ → List ℕ → List ℕ → List ℕ → List Connection → List ℕ → Type 0

@@ -11,7 +11,7 @@ ghost use Rattle.protocol.specs.ConnectionTable.{sound_table, share_of, with_sha
 ghost use Rattle.protocol.specs.Calls.{verdict, accept, addressed, answer_written, answer_left};
 ghost use Rattle.protocol.specs.Request.{told_outcome, told_requested, accepted, request_of};
 ghost use Rattle.protocol.specs.Tick.{told_ticked, told_ticked_row, tick_tests, tick_at, tick_of};
-ghost use Rattle.table.specs.Row.{place_in};
+ghost use Rattle.row.specs.Row.{place_in};
 ghost use Rattle.seats.specs.Seats.{settled_in};
 ghost use Rattle.server.specs.Admitted.{Admitted};
 ghost use Rattle.server.specs.Tables.{left_in, made_of, kept_or_made};

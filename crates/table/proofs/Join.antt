@@ -13,7 +13,8 @@ use Rattle.protocol.specs.declared.SdoClientInfo.{SdoClientInfo}
 use Rattle.protocol.specs.declared.Connection.{Connection}
 use Rattle.protocol.specs.ConnectionTable.{before, fresh, is_used, is_unused, used_of, unused_of, joining, insert, join}
 use Rattle.connection.specs.Among.{is_behind}
-use Rattle.table.specs.Row.{used_first, unused_place, seat_place, put_in, joined_row}
+use Rattle.row.specs.Row.{seat_place, put_in}
+use Rattle.table.specs.Row.{used_first, unused_place, joined_row}
 
 -- used records first, by the first record
 pub used_then : (r : Connection) (rs : List Connection) → r.used ≡ true → used_first (r ∷ rs) ≡ true → used_first rs ≡ true

@@ -6,7 +6,7 @@ use mathlib.Core.Path.{◌≡◌, refl, sym, ap, ◌∙◌}
 use mathlib.Core.Bool.{Bool, true, false, ◌&&◌, not}
 use mathlib.Core.List.{List, [], ◌∷◌, ◌++◌, append_assoc, append-nil}
 use lib.ListN.{length, get_or, take, drop, set, length-append, length-drop, drop_of_length-le}
-use lib.Seq.{paste, set-append_left, take-set-lt, take-suc-set, take-suc, take-take, take_all, drop-drop, drop-cons, drop_at, set_at, length-take-le}
+use lib.Seq.{paste, set-append_left, take-set-lt, take-suc-set, take_all, drop-cons, set_at, length-take-le}
 use borrow.Author.Tests.{lt-ltb, le-ltb}
 use Rattle.std.specs.Prelude.{Option, None, Some}
 use Rattle.std.specs.Option.{unwrap_or}
@@ -17,7 +17,8 @@ use Rattle.protocol.specs.declared.SdoClientInfo.{SdoClientInfo}
 use Rattle.protocol.specs.declared.Connection.{Connection}
 use Rattle.protocol.specs.ConnectionTable.{before, fresh, is_unused, joining}
 use Rattle.connection.specs.Among.{is_behind}
-use Rattle.table.specs.Row.{place_in, unused_place, seat_place, put_in, joined_row}
+use Rattle.row.specs.Row.{place_in, seat_place, put_in}
+use Rattle.table.specs.Row.{unused_place, joined_row}
 use Rattle.table.proofs.Walk.{get_d_any}
 
 -- the elements from a place up to another moved up by one, and one put where they stood
@@ -33,31 +34,15 @@ shift_in t at n c h l =
     let s : set p at c ≡ take at t ++ (c ∷ []) = sym (take-set-lt (suc at) t at c (omega arith)) ∙ take-suc-set t at c (omega arith) in
     rw (add-one at, e, set-append_left (p ++ q) z at c inside', set-append_left p q at c inside, s, append_assoc (take at t) (c ∷ []) q)
 
--- the same by a turn of the elements between the two places, and the elements from a place on turned down by one
-module _ {A : Type 0} (t : List A) (at : ℕ) (c : A) where
-  pub turned_in : (n k : ℕ) → at ≤ n → n < length t → k ≡ n + 1 - at → let m = take k (drop at t) in set (take at t ++ ((drop (length m - 1) m ++ take (length m - 1) m) ++ drop k (drop at t))) at c ≡ take at t ++ (c ∷ take (n - at) (drop at t)) ++ drop (suc n) t
-  turned_in n k h l e =
-      let q = drop at t in
-      let j = n - at in
-      let lq : j < length q = simp length-drop (omega arith) in
-      let ek : k ≡ suc j = omega arith in
-      let m : take k q ≡ take j q ++ (get_or q j c ∷ []) = rw ek (take-suc q j c lq) in
-      let lm : length (take k q) - 1 ≡ j = rw (length-take-le k q (simp length-drop (omega arith))) (omega arith) in
-      let lj : length (take j q) ≡ j = length-take-le j q (omega arith) in
-      let d : drop j (take k q) ≡ get_or q j c ∷ [] = rw m (drop_at (take j q) (get_or q j c ∷ []) j lj) in
-      let f : take j (take k q) ≡ take j q = take-take j k q (omega arith) in
-      let ez : at + k ≡ suc n = omega arith in
-      let z : drop k q ≡ drop (suc n) t = rw (← ez) (drop-drop k at t) in
-      rw (lm, d, f, z, set_at (take at t) (get_or q j c) (take j q ++ drop (suc n) t) c at (length-take-le at t (omega arith)), append_assoc (take at t) (c ∷ take j q) (drop (suc n) t))
-
-  pub turned_down : (n : ℕ) → length t ≡ n → at < n → let m = take (n - at) (drop at t) in set (take at t ++ ((drop 1 m ++ take 1 m) ++ drop (n - at) (drop at t))) (n - 1) c ≡ take at t ++ drop (suc at) t ++ (c ∷ [])
-  turned_down n l h =
-      let q = drop at t in
-      let m : take (n - at) q ≡ q = take_all (n - at) q (simp length-drop (omega arith)) in
-      let z : drop (n - at) q ≡ [] = drop_of_length-le q {i = n - at} (simp length-drop (omega arith)) in
-      let x : q ≡ get_or t at c ∷ drop (suc at) t = drop-cons t at c (omega arith) in
-      let lp : length (take at t ++ drop (suc at) t) ≡ n - 1 = simp (length-append, length-drop, length-take-le at t (omega arith)) (omega arith) in
-      rw (m, z, x, append-nil (drop (suc at) t ++ (get_or t at c ∷ [])), ← append_assoc (take at t) (drop (suc at) t) (get_or t at c ∷ [])) (set_at (take at t ++ drop (suc at) t) (get_or t at c) [] c (n - 1) lp)
+-- the elements from a place on turned down by one, and one put at the end
+pub turned_down : {A : Type 0} (t : List A) (at : ℕ) (c : A) (n : ℕ) → length t ≡ n → at < n → let m = take (n - at) (drop at t) in set (take at t ++ ((drop 1 m ++ take 1 m) ++ drop (n - at) (drop at t))) (n - 1) c ≡ take at t ++ drop (suc at) t ++ (c ∷ [])
+turned_down t at c n l h =
+    let q = drop at t in
+    let m : take (n - at) q ≡ q = take_all (n - at) q (simp length-drop (omega arith)) in
+    let z : drop (n - at) q ≡ [] = drop_of_length-le q {i = n - at} (simp length-drop (omega arith)) in
+    let x : q ≡ get_or t at c ∷ drop (suc at) t = drop-cons t at c (omega arith) in
+    let lp : length (take at t ++ drop (suc at) t) ≡ n - 1 = simp (length-append, length-drop, length-take-le at t (omega arith)) (omega arith) in
+    rw (m, z, x, append-nil (drop (suc at) t ++ (get_or t at c ∷ [])), ← append_assoc (take at t) (drop (suc at) t) (get_or t at c ∷ [])) (set_at (take at t ++ drop (suc at) t) (get_or t at c) [] c (n - 1) lp)
 
 -- a client's place is not behind the first unused record
 pub seat_before : (c : SdoClientInfo) (t : List Connection) → seat_place c t ≤ unused_place t

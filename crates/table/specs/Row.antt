@@ -1,35 +1,18 @@
 -- The moves of a row by places, as the code makes them, for a row of any shape; proofs/ says where they are `join` and `release`.
-use Rattle.std.specs.Prelude.{ℕ, zero, suc, ◌-◌, Bool, true, List, [], ◌∷◌, ◌++◌, length, get_or, take, drop, ltb, Option, Some, None}
+use Rattle.std.specs.Prelude.{ℕ, zero, suc, Bool, true, List, [], ◌∷◌, ◌++◌, length, get_or, take, drop, ltb}
 use Rattle.picks.specs.Pick.{pick, first, every}
 use Rattle.protocol.specs.declared.SdoClientInfo.{SdoClientInfo}
 use Rattle.protocol.specs.declared.Connection.{Connection}
 use Rattle.protocol.specs.ConnectionTable.{fresh, is_unused, joining}
-use Rattle.connection.specs.Among.{is_behind}
-
--- the place that a search tells, the row's length where it tells none
-abbrev pub place_in : Option ℕ → ℕ
-place_in None = 8
-place_in (Some i) = i
+use Rattle.row.specs.Row.{seat_place, put_in}
 
 -- used records come first
 unfoldable pub used_first : List Connection → Bool
 used_first [] = true
 used_first (r ∷ rs) = pick r.used (used_first rs) (every is_unused rs)
 
--- a place of a row of n, or past its end none
-abbrev pub due_in : ℕ → ℕ → Option ℕ
-due_in i n = pick (ltb i n) (Some i) None
-
 unfoldable pub unused_place : List Connection → ℕ
 unused_place t = first is_unused t
-
--- where a client's record belongs: before the first that is unused, or whose client does not stand before it
-unfoldable pub seat_place : SdoClientInfo → List Connection → ℕ
-seat_place c t = first (is_behind c) t
-
--- a record put at a place, those from there up to place n moved up by one, and the one at place n lost
-unfoldable pub put_in : ℕ → ℕ → Connection → List Connection → List Connection
-put_in at n r t = take at t ++ (r ∷ take (n - at) (drop at t)) ++ drop (suc n) t
 
 -- a client's record in its place, with the first unused one's number; a full row stays
 unfoldable pub joined_row : SdoClientInfo → List Connection → List Connection

@@ -5,7 +5,8 @@ ghost use Rattle.std.specs.Prelude.{◌≡◌, true, false, not, ◌&&◌, lengt
 ghost use Rattle.picks.specs.Pick.{pick, first, every};
 ghost use Rattle.protocol.specs.ConnectionTable.{unused_of, fresh, holds, place_of, record_of, update, is_known, join, release, sound_record, chosen, earliest, ordered, areas_once, sound_table};
 ghost use Rattle.connection.specs.Among.{is_gone};
-ghost use Rattle.table.specs.Row.{place_in, due_in, unused_place, seat_place, joined_row, dropped_at, drops_first};
+ghost use Rattle.row.specs.Row.{place_in};
+ghost use Rattle.table.specs.Row.{unused_place, joined_row, dropped_at, drops_first};
 
 use protocol::{Connection, SdoClientInfo};
 
@@ -18,33 +19,19 @@ pub fn place_of(t: [Connection; 8], client: SdoClientInfo) -> Option<usize>
     t.iter().position(|c| connection::is_held(*c, client))
 }
 
-// The place of the first due one of any number of records.
-pub fn due_place(rows: &[Connection], clock: u64) -> Option<usize>
-    ensures { result ≡ due_in (chosen rows.now clock) (length rows.now) }
-{
-    rows.iter().position(|c| transfers::is_due(*c, clock))
-}
-
 // The place of the first record that is due.
 pub fn first_due(t: [Connection; 8], clock: u64) -> Option<usize>
     ensures place { place_in result ≡ chosen t clock }
     ensures inside { IfSome result (λ i. i < 8) }
 {
-    due_place(&t, clock)
-}
-
-// The earliest deadline of any number of records.
-pub fn earliest(rows: &[Connection]) -> Option<u64>
-    ensures { result ≡ earliest rows.now }
-{
-    rows.iter().filter_map(|c| transfers::deadline_of(*c)).min()
+    row::due_place(&t, clock)
 }
 
 // The earliest deadline of the row.
 pub fn next_deadline(t: [Connection; 8]) -> Option<u64>
     ensures { result ≡ earliest t }
 {
-    earliest(&t)
+    row::earliest(&t)
 }
 
 // The place of the first unused record.
@@ -103,26 +90,16 @@ pub fn is_sound(t: [Connection; 8]) -> bool
     is_ordered(t) & areas_once(t) & records_sound(t)
 }
 
-// Where a client's record belongs.
-fn seat_place(t: [Connection; 8], client: SdoClientInfo) -> Option<usize>
-    ensures place { place_in result ≡ seat_place client t }
-    ensures inside { IfSome result (λ i. i < 8) }
-{
-    t.iter().position(|c| connection::is_behind(*c, client))
-}
-
 // The row with the client's record in its place, under the first unused one's number; a full row stays.
-fn joined(mut t: [Connection; 8], client: SdoClientInfo) -> [Connection; 8]
+fn joined(t: [Connection; 8], client: SdoClientInfo) -> [Connection; 8]
     ensures { result ≡ joined_row client t }
 {
     let Some(n) = unused_place(t) else {
         return t;
     };
-    let at = seat_place(t, client).unwrap_or(n);
+    let at = row::seat_place(t, client).unwrap_or(n);
     let c = connection::joining(client, t[n].area);
-    t[at..=n].rotate_right(1);
-    t[at] = c;
-    t
+    row::inserted(t, at, n, c)
 }
 
 // The row where the client has a record: its own, or one that it joins with.

@@ -3,7 +3,7 @@ use Rattle.std.proofs.Common.{rules, tests, ◌∙◌}
 use Rattle.std.proofs.lemmas.Iterator.{YieldsList-from_slice}
 use Rattle.std.proofs.lemmas.Iterator.Search.{position_from_yields_List}
 use Rattle.connection.specs.Among.{is_behind}
-use Rattle.table.specs.Row.{seat_place}
+use Rattle.row.specs.Row.{seat_place}
 use Rattle.format.specs.Format.{record_of, rows}
 use Rattle.packed.proofs.Searches.{place_found}
 use Rattle.packed.proofs.seat_place.Goals as goal

@@ -2,8 +2,8 @@
 use Rattle.std.proofs.Common.{rules, tests, ◌∙◌, ne_eqb}
 use Rattle.std.proofs.lemmas.Iterator.{YieldsList-from_slice}
 use Rattle.std.proofs.lemmas.Iterator.Search.{all_from_yields_List}
+use Rattle.picks.proofs.Keep.{all_every}
 use Rattle.format.specs.Format.{rows, is_record, is_table}
-use Rattle.record.proofs.Parts.{all_every}
 use Rattle.record.proofs.is_table.Goals as goal
 
 pub returns-in-Some : goal.returns-in-Some

@@ -3,7 +3,7 @@ use Rattle.server.proofs.Calls.{same_called, ticked_is, tick_stored}
 use Rattle.protocol.proofs.Ticks.{tick_accepted_by}
 use Rattle.protocol.specs.ConnectionTable.{fresh, idle, share_of, told_record_ticked, tick_record, tick_in}
 use Rattle.protocol.specs.Tick.{tick_told, tick_at}
-use Rattle.table.specs.Row.{place_in}
+use Rattle.row.specs.Row.{place_in}
 use Rattle.server.proofs.ticked.Goals.{in-Some+in_default-tick, in_default}
 use Rattle.std.proofs.Common.{length, ℕ, Option}
 use Rattle.std.proofs.lemmas.List.{get_or_past}

@@ -1,6 +1,6 @@
 -- The search of any number of records, of eight.
 use Rattle.protocol.specs.ConnectionTable.{is_due, chosen}
-use Rattle.table.proofs.Walk.{told_in}
+use Rattle.row.proofs.Walk.{told_in}
 use borrow.Author.Rules.{rules}
 use Rattle.table.proofs.first_due.Goals as goal
 

@@ -1,6 +1,6 @@
 -- The first record that is used and closed.
 use Rattle.connection.specs.Among.{is_gone}
-use Rattle.table.proofs.Walk.{searched_eight}
+use Rattle.row.proofs.Walk.{searched_eight}
 use Rattle.std.proofs.lemmas.Iterator.{YieldsList-from_slice}
 use borrow.Author.Rules.{rules}
 use Rattle.table.proofs.gone_place.Goals as goal

@@ -1,6 +1,6 @@
 -- The first record that holds the client.
 use Rattle.protocol.specs.ConnectionTable.{holds, place_of}
-use Rattle.table.proofs.Walk.{searched_eight}
+use Rattle.row.proofs.Walk.{searched_eight}
 use Rattle.std.proofs.lemmas.Iterator.{YieldsList-from_slice}
 use borrow.Author.Rules.{rules}
 use Rattle.table.proofs.place_of.Goals as goal

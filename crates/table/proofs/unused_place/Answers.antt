@@ -1,7 +1,7 @@
 -- The first unused record.
 use Rattle.protocol.specs.ConnectionTable.{is_unused}
 use Rattle.table.specs.Row.{unused_place}
-use Rattle.table.proofs.Walk.{searched_eight}
+use Rattle.row.proofs.Walk.{searched_eight}
 use Rattle.std.proofs.lemmas.Iterator.{YieldsList-from_slice}
 use borrow.Author.Rules.{rules}
 use Rattle.table.proofs.unused_place.Goals as goal

@@ -1,9 +1,9 @@
 -- The first record that is due.
 use Rattle.protocol.specs.ConnectionTable.{is_due, chosen}
-use Rattle.table.proofs.Walk.{searched}
+use Rattle.row.proofs.Walk.{searched}
 use Rattle.std.proofs.lemmas.Iterator.{YieldsList-from_slice}
 use borrow.Author.Rules.{rules}
-use Rattle.table.proofs.due_place.Goals as goal
+use Rattle.row.proofs.due_place.Goals as goal
 
 pub returns : goal.returns
 unfolding chosen

@@ -1,12 +1,12 @@
 -- The least of the deadlines that are there.
 use Rattle.protocol.specs.ConnectionTable.{deadline_of}
-use Rattle.table.proofs.Walk.{least_earliest}
+use Rattle.row.proofs.Walk.{least_earliest}
 use Rattle.std.proofs.lemmas.Iterator.{YieldsList-from_slice}
 use Rattle.std.proofs.lemmas.Iterator.Consumers.{YieldsList-from_filter_map, min_from_yields_List}
 use Rattle.std.proofs.lemmas.Iterator.Adapters.{option_map_id}
 use mathlib.Core.Path.{sym, ◌∙◌}
 use borrow.Author.Rules.{rules}
-use Rattle.table.proofs.earliest.Goals as goal
+use Rattle.row.proofs.earliest.Goals as goal
 
 pub returns : goal.returns
 returns c =

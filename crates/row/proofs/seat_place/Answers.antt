@@ -1,10 +1,10 @@
 -- The first record that the client stands before.
 use Rattle.connection.specs.Among.{is_behind}
-use Rattle.table.specs.Row.{seat_place}
-use Rattle.table.proofs.Walk.{searched_eight}
+use Rattle.row.specs.Row.{seat_place}
+use Rattle.row.proofs.Walk.{searched_eight}
 use Rattle.std.proofs.lemmas.Iterator.{YieldsList-from_slice}
 use borrow.Author.Rules.{rules}
-use Rattle.table.proofs.seat_place.Goals as goal
+use Rattle.row.proofs.seat_place.Goals as goal
 
 pub returns-clause-place : goal.returns-clause-place
 unfolding seat_place
