@@ -1,4 +1,4 @@
--- A table's bytes cut into rows of 40, what a test of every row says, and transfers' parts.
+-- A table's bytes cut into rows of 40, and transfers' parts.
 use Prim.Native.Nat.{ℕ, zero, suc, ◌+◌}
 use mathlib.Core.Path.{◌≡◌, refl}
 use mathlib.Core.List.{List}
