@@ -1,4 +1,4 @@
-// The server with its table as one value, a row of eight records (server.rs): request, tick and deadline query, with the refusals in order. Area, image and answer buffer are lent.
+// The server (server.rs): a request on a table in any form, and request, tick and deadline query with the table as one value, a row of eight records; the refusals in order. Area, image and answer buffer are lent.
 // (Area, image and answer stand apart: a request changes all three, a tick the answer alone, and the tests none, so a struct of references would fit one of them.)
 #![tactic(auto)]
 
