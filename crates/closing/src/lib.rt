@@ -7,7 +7,7 @@ ghost use Rattle.protocol.specs.TransferRecord.{told_action};
 ghost use Rattle.protocol.specs.ConnectionRecord.{told_handled, is_opening, ends, settle, answered};
 
 use protocol::{
-    Action, Connection, Left, Refusal, SdoClientInfo, SdoResponseData, SdoServerState,
+    Action, Connection, Handled, Left, SdoClientInfo, SdoResponseData, SdoServerState,
     SdoTransferState, Segmentation, SendConnState, SequenceLayerHeader,
 };
 
@@ -130,7 +130,7 @@ pub fn rebuilt(c: Connection) -> Connection
 
 // The answer under the sequence step's header, with the receive number after the call.
 #[tactic(auto, unfolding(protocol::specs::ConnectionRecord::answered, picks::specs::Pick::pick))]
-pub fn answered(r: SequenceLayerHeader, a: Action) -> Left<Result<SdoResponseData, Refusal>>
+pub fn answered(r: SequenceLayerHeader, a: Action) -> Handled
     ensures { (share image : List ℕ) → told_handled result share image ≡ answered r (told_action a share image) }
 {
     let connection = rebuilt(a.connection);

@@ -1,4 +1,5 @@
 // The command layer of one connection, by value (sequence_handler.rs, process_command_layer). The client's share of the area and the image are lent.
+// (Record, share, image and clock stay parameters: why stands beside `handlers::read_entry`.)
 #![tactic(auto)]
 
 ghost use Rattle.std.specs.Prelude.{◌≡◌, []};

@@ -16,7 +16,7 @@ pub fn is_closed(s: SdoServerState) -> bool
 }
 
 // Whether a record is a used one of the client's.
-// (packed asks this and the three below of 40 bytes: used is a byte there, a fresh client eight that are 0, and only the contracts are the same)
+// (`packed` asks this and the two below of 40 bytes: used is a byte there, a fresh client eight that are 0, and only the contracts are the same.)
 pub fn is_held(c: Connection, client: SdoClientInfo) -> bool
     ensures { result ≡ holds client c }
 {

@@ -103,7 +103,7 @@ pub fn write_by_index(
         Segmentation::Initiate => {
             writes::write_initiate(asked, share, image, clock, total, payload)
         }
-        Segmentation::Segment => { write_data(asked, share, image, clock, false, payload) }
-        Segmentation::Complete => { write_data(asked, share, image, clock, true, payload) }
+        Segmentation::Segment => write_data(asked, share, image, clock, false, payload),
+        Segmentation::Complete => write_data(asked, share, image, clock, true, payload),
     }
 }

@@ -44,8 +44,8 @@ pub fn abort(c: Connection, transaction: u8, code: u32) -> Action
     }
 }
 
-// What a client asks for: its record, and the transaction that the answer names.
-#[derive(Copy, Clone)]
+// Where an answer goes: the client's record, and the transaction that the answer names.
+#[derive(Clone, Copy)]
 pub struct Asked {
     pub connection: Connection,
     pub transaction: u8,

@@ -9,8 +9,8 @@ ghost use Rattle.protocol.specs.DeadlineQuery.{told_next_action, query_of};
 use protocol::{Answered, Called, Connection, Refusal, SdoClientInfo};
 
 // A request from a client.
-// (area, image and answer as one struct, and client, clock and request as another, prove too, but each caller makes them for this call alone, and the clause names the answer that is left l.exit.1.1.0.now)
-// (this and the tick share that the row is returned beside what the call says: each lends it to a call of its own)
+// (Area, image and answer as one struct, and client, clock and request as another, prove too, but each caller makes them for this call alone, and the clause has no name for the answer that is left in a struct.)
+// (This and the tick share that the row is returned beside what the call says: each lends it to a call of its own.)
 pub fn handle_request(
     mut t: [Connection; 8],
     area: &mut [u8],

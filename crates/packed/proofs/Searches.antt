@@ -5,19 +5,17 @@ use mathlib.Core.Path.{◌≡◌, refl, sym, ap, ◌∙◌}
 use mathlib.Core.Bool.{Bool, true, false, cond, ◌&&◌, ◌||◌}
 use mathlib.Core.List.{List, [], ◌∷◌, map}
 use lib.ListN.{length, length-map, get_or, take}
-use Rattle.std.specs.Prelude.{Option, None, position}
-use Rattle.std.specs.List.{list_all, prefix_len, IsAllAdjacentAnswer}
-use Rattle.std.specs.List as L
-use Rattle.picks.specs.Pick.{first, fold, every}
+use Rattle.std.specs.Prelude.{Option, position, min}
+use Rattle.std.specs.List.{list_all, prefix_len, filter_map, cons_option, reduce, IsAllAdjacentAnswer}
+use Rattle.picks.specs.Pick.{first, every}
 use Rattle.picks.proofs.Keep.{by_test, every_map, every_follows, all_every}
 use Rattle.protocol.specs.declared.Connection.{Connection}
-use Rattle.protocol.specs.ConnectionTable.{fresh, is_fresh, ordered, sound_record, earlier, deadline_of, earliest}
+use Rattle.protocol.specs.ConnectionTable.{fresh, is_fresh, ordered, sound_record, deadline_of, earliest}
 use Rattle.protocol.proofs.ConnectionTable.{fresh_eq, unused_first, ordered_rest}
 use Rattle.connection.specs.Among.{follows}
 use Rattle.row.specs.Row.{place_in}
-use Rattle.row.proofs.Walk.{place_first}
+use Rattle.row.proofs.Walk.{place_first, least_earliest}
 use Rattle.table.proofs.Order.{ordered_sorted}
-use Rattle.table.proofs.Walk.{fold_same}
 use Rattle.format.specs.Format.{record_of, rows, table_of}
 
 first_map : {A B : Type 0} (f : B → Bool) (h : A → B) (xs : List A) → first f (map h xs) ≡ first (λ x. f (h x)) xs
@@ -92,15 +90,14 @@ pub sound_rows : (s : List ℕ) → ordered (table_of s) ≡ true → list_all r
 unfolding table_of
 sound_rows s o = used_sound (rows 8 0 s) o
 
--- the earliest deadline, row by row
-abbrev pub row_earlier : Option ℕ → List ℕ → Option ℕ
-row_earlier d x = earlier d (deadline_of (record_of x))
+-- the least of the rows' deadlines is the earliest
+abbrev pub row_deadline : List ℕ → Option ℕ
+row_deadline x = deadline_of (record_of x)
 
-fold_map : (d : Option ℕ) (xs : List (List ℕ)) → fold row_earlier d xs ≡ fold (λ e r. earlier e (deadline_of r)) d (map record_of xs)
-unfolding fold
-fold_map d [] = refl
-fold_map d (x ∷ xs) = fold_map (row_earlier d x) xs
+deadline_map : (xs : List (List ℕ)) → filter_map row_deadline xs ≡ filter_map deadline_of (map record_of xs)
+deadline_map [] = refl
+deadline_map (x ∷ xs) = ap (cons_option (row_deadline x)) (deadline_map xs)
 
-pub earliest_row : (s : List ℕ) → L.fold row_earlier None (rows 8 0 s) ≡ earliest (table_of s)
-unfolding table_of earliest
-earliest_row s = fold_same row_earlier None (rows 8 0 s) ∙ fold_map None (rows 8 0 s)
+pub earliest_row : (s : List ℕ) → reduce min (filter_map row_deadline (rows 8 0 s)) ≡ earliest (table_of s)
+unfolding table_of
+earliest_row s = ap (reduce min) (deadline_map (rows 8 0 s)) ∙ least_earliest (table_of s)

@@ -94,15 +94,14 @@ fn areas_once(t: &[u8; 320]) -> bool
 }
 
 // Whether a record's transfer, if it has one, is sound.
+// (The state's number, here and below: no state is made of the bytes, and where a transfer is none is looked at.)
 fn sound_state(r: &[u8; 40]) -> bool
     ensures { result ≡ sound_state (record_of r.now).state }
 {
-    if r[12] < 3 {
-        true
-    } else if r[12] == 3 {
-        transfers::sound_upload(record::transfer_of(r))
-    } else {
-        transfers::sound_download(record::transfer_of(r))
+    match r[12] {
+        0..=2 => true,
+        3 => transfers::sound_upload(record::transfer_of(r)),
+        _ => transfers::sound_download(record::transfer_of(r)),
     }
 }
 
@@ -154,7 +153,6 @@ pub fn place_of(t: &[u8; 320], client: SdoClientInfo) -> Option<usize>
 }
 
 // The place of the first unused record.
-// (No type holds a number below 8, so a clause says it.)
 pub fn unused_place(t: &[u8; 320]) -> Option<usize>
     ensures place { place_in result ≡ unused_place (table_of t.now) }
     ensures inside { IfSome result (λ i. i < 8) }
@@ -170,7 +168,6 @@ fn is_behind(r: &[u8; 40], client: SdoClientInfo) -> bool
 }
 
 // Where a client's record belongs.
-// (No type holds a number below 8, so a clause says it.)
 pub fn seat_place(t: &[u8; 320], client: SdoClientInfo) -> Option<usize>
     ensures place { place_in result ≡ seat_place client (table_of t.now) }
     ensures inside { IfSome result (λ i. i < 8) }
@@ -192,13 +189,10 @@ fn deadline_of(r: &[u8; 40]) -> Option<u64>
 }
 
 // The earliest deadline.
-// (`table` folds a row of records: what both share is `fold` and `earlier`.)
 pub fn next_deadline(t: &[u8; 320]) -> Option<u64>
     ensures { result ≡ earliest (table_of t.now) }
 {
-    record::rows(t)
-        .iter()
-        .fold(None, |d, r| transfers::earlier(d, deadline_of(r)))
+    record::rows(t).iter().filter_map(|r| deadline_of(r)).min()
 }
 
 // Whether a tick finds nothing to do for a record: it is not due, and is not a closed one that is used.

@@ -1,4 +1,5 @@
 // Requests and ticks on one connection, by value (sequence_handler.rs): before the sequence step, the step, and after it the command layer, the closing and the answer's header. The client's share of the area and the image are lent.
+// (Record, share, image and clock stay parameters: why stands beside `handlers::read_entry`.)
 #![tactic(auto)]
 
 ghost use Rattle.std.specs.Prelude.{◌≡◌, List, true, false, ◌||◌, ℕ, eqb};
@@ -9,7 +10,7 @@ ghost use Rattle.protocol.specs.ConnectionRecord.{told_handled, told_reply, sequ
 ghost use Rattle.protocol.specs.ConnectionTable.{told_record_ticked, tick_record};
 
 use protocol::{
-    Action, Body, Connection, Left, ReceiveConnState, Refusal, SdoResponseData, SdoServerState,
+    Action, Body, Connection, Handled, Left, ReceiveConnState, Refusal, SdoResponseData, SdoServerState,
     SendConnState, SequenceLayerHeader,
 };
 
@@ -47,7 +48,7 @@ fn may_be_empty(s: SdoServerState, mark: SendConnState) -> bool
 }
 
 // What is left of a record whose request is answered.
-fn answered(connection: Connection, r: SdoResponseData) -> Left<Result<SdoResponseData, Refusal>>
+fn answered(connection: Connection, r: SdoResponseData) -> Handled
     ensures { (share image : List ℕ) → told_handled result share image ≡ record { connection = connection; share = share; image = image; said = value (told_reply r share image) } }
 {
     Left {
@@ -57,7 +58,7 @@ fn answered(connection: Connection, r: SdoResponseData) -> Left<Result<SdoRespon
 }
 
 // What is left of a record whose request is refused.
-fn refused(connection: Connection, x: Refusal) -> Left<Result<SdoResponseData, Refusal>>
+fn refused(connection: Connection, x: Refusal) -> Handled
     ensures { (share image : List ℕ) → told_handled result share image ≡ record { connection = connection; share = share; image = image; said = refused (refusal_number x) } }
 {
     Left {
@@ -75,7 +76,7 @@ fn empty_frame(
     clock: u64,
     h: SequenceLayerHeader,
     r: SequenceLayerHeader,
-) -> Left<Result<SdoResponseData, Refusal>>
+) -> Handled
     ensures { (share : List ℕ) → told_handled result share image.now ≡ empty_frame c share image.now clock h r }
 {
     if may_be_empty(c.state, h.scon) {
@@ -94,7 +95,7 @@ pub fn after_step(
     h: SequenceLayerHeader,
     r: SequenceLayerHeader,
     body: &[u8],
-) -> Left<Result<SdoResponseData, Refusal>>
+) -> Handled
     ensures { told_handled result share.new image.new ≡ after_step c share.old image.old clock h r body.now }
 {
     if h.rcon == ReceiveConnState::ErrorResponse {
@@ -123,7 +124,7 @@ fn on_step(
     clock: u64,
     h: SequenceLayerHeader,
     body: &[u8],
-) -> Left<Result<SdoResponseData, Refusal>>
+) -> Handled
     ensures { (request : List ℕ) → body.now ≡ command_part request → told_handled result share.new image.new ≡ on_step c share.old image.old clock request h (sequence_step c h) }
 {
     let step = stepping::sequence_step(c, h);
@@ -144,7 +145,7 @@ pub fn handle_request(
     image: &mut [u8],
     clock: u64,
     request: &[u8],
-) -> Left<Result<SdoResponseData, Refusal>>
+) -> Handled
     ensures { told_handled result share.new image.new ≡ serve c share.old image.old clock request.now }
 {
     let Ok(h) = sequence::deserialize(request) else {

@@ -31,7 +31,7 @@ fn serve_share(
     image: &mut [u8],
     clock: u64,
     request: &[u8],
-) -> Left<Result<SdoResponseData, Refusal>>
+) -> Handled
     requires { SHARE * c.area + SHARE ≤ length area.old }
     ensures served { (told_handled result (share_of area.new c.area) image.new ≡ serve c (share_of area.old c.area) image.old clock request.now) }
     ensures area_left { area.new ≡ with_share area.old c.area (share_of area.new c.area) }
@@ -50,7 +50,7 @@ pub fn serve_record(
     image: &mut [u8],
     clock: u64,
     request: &[u8],
-) -> Left<Result<SdoResponseData, Refusal>>
+) -> Handled
     ensures served { told_handled result (share_of area.new c.area) image.new ≡ served_on c area.old image.old clock request.now }
     ensures area_left { area.new ≡ pick (holds_share c area.old) (with_share area.old c.area (share_of area.new c.area)) area.old }
 {

@@ -51,7 +51,9 @@ fn is_sound(e: Entry, least: u32, start: u32) -> bool
         && has_room(e)
 }
 
-// Whether the first n entries of an image are sound, one behind the other, up to its end. (Inlined into a tick, or with the early return in place of `sound`, its loop takes one to three instructions more an entry.)
+// Whether the first n entries of an image are sound, one behind the other, up to its end.
+// (Inlined into a tick, or with the early return in place of `sound`, the loop takes one to three instructions more an entry.)
+// (The loop counts, since the number is the entry's place, which `Entry` keeps.)
 // (n is read of the image once, by the caller, who tests that there is room for so many.)
 #[inline(never)]
 fn sound_entries(image: &[u8], n: usize) -> bool

@@ -1,10 +1,10 @@
-// The sequence step on a single lent record: the record is taken apart, the step by value is called, and the record is written back. It stands on the path of every request.
+// The sequence step on a single lent record: the step by value is called, and the record that it leaves is written back. It stands on the path of every request.
 #![tactic(auto)]
 
 ghost use Rattle.std.specs.Prelude.{◌≡◌};
 ghost use Rattle.protocol.specs.ConnectionRecord.{step_of, told_step, sequence_step};
 
-use protocol::{Connection, Left, Misfit, SequenceLayerHeader};
+use protocol::{Connection, Left, Misfit, SequenceLayerHeader, Step};
 
 // The sequence step on a single lent record, which is written back: the answer's header so far, or that the frame does not fit.
 // (record and header stay two: one is lent and changed, the other only read)
@@ -20,10 +20,7 @@ pub fn step_record(
 }
 
 // The sequence step on a record by value, which is lent to step_record and taken back.
-pub fn sequence_step(
-    c: Connection,
-    h: SequenceLayerHeader,
-) -> Left<Result<SequenceLayerHeader, Misfit>>
+pub fn sequence_step(c: Connection, h: SequenceLayerHeader) -> Step
     ensures { told_step result ≡ sequence_step c h }
 {
     let mut connection = c;

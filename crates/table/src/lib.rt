@@ -114,7 +114,7 @@ pub fn seated(t: [Connection; 8], client: SdoClientInfo) -> [Connection; 8]
 }
 
 // The record at a place; past the end a fresh one.
-// (the row comes first, as a receiver would: it is an array, as document 01 has it, and an array takes no methods)
+// (The row comes first, as a receiver would: `seats::Table` has these as methods, and they are what its impl calls.)
 pub fn record_at(t: [Connection; 8], i: usize) -> Connection
     ensures { result ≡ get_or t i (fresh 0) }
 {
@@ -184,14 +184,14 @@ fn gone_place(t: [Connection; 8]) -> Option<usize>
 }
 
 // The row without its closed records, whose area numbers go to the last unused ones in client order.
-pub fn drop_closed(t: [Connection; 8]) -> [Connection; 8]
+// (The place is found again in each turn, since a drop moves the records behind it. With `t = dropped_at(t, i)` the check does not read the proof.)
+pub fn drop_closed(mut t: [Connection; 8]) -> [Connection; 8]
     ensures value { result ≡ drops_first 8 is_gone t }
     ensures when_sound { (sound_table t ≡ true → result ≡ release is_gone t) }
 {
-    let mut r = t;
-    while let Some(i) = gone_place(r) {
-        let next = dropped_at(r, i);
-        r = next;
+    while let Some(i) = gone_place(t) {
+        let next = dropped_at(t, i);
+        t = next;
     }
-    r
+    t
 }

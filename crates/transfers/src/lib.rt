@@ -5,13 +5,9 @@ ghost use Rattle.std.specs.Prelude.{◌≡◌, not, ◌&&◌, max, eqb};
 ghost use Rattle.picks.specs.Pick.{pick};
 ghost use Rattle.protocol.specs.ConnectionTable.{has_deadline, sound_upload, sound_download, sound_state, sound_record, transfer_deadline, is_past, is_due, earlier, deadline_of};
 
-use protocol::{Connection, SdoServerState, SdoTransferState};
+use protocol::{Connection, MAX_EXPEDITED_PAYLOAD, SHARE, SdoServerState, SdoTransferState};
 
-// The most payload bytes of an answer, the bytes of a share, and what the first frame of a write may carry.
-const MAX_EXPEDITED_PAYLOAD: u32 = 1452;
-
-const SHARE: u32 = 8192;
-
+// What the first frame of a write may carry.
 const FIRST_MAX: u32 = 1480;
 
 // Whether deadline and stored piece are both there, or both absent and no retries left.

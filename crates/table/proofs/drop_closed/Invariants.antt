@@ -7,7 +7,7 @@ use mathlib.Core.Path.{◌≡◌}
 use Rattle.table.proofs.drop_closed.Given as goal
 
 abbrev pub invariant-loop-i : goal.invariant-loop-i
-invariant-loop-i l = (length l.initial.r ≡ 8) × (length l.r ≡ 8) × (drops_first 8 is_gone l.initial.r ≡ drops_first 8 is_gone l.r)
+invariant-loop-i l = (length l.initial.t ≡ 8) × (length l.t ≡ 8) × (drops_first 8 is_gone l.initial.t ≡ drops_first 8 is_gone l.t)
 
 abbrev pub decreases-loop-i : goal.decreases-loop-i
-decreases-loop-i l = count is_gone l.r
+decreases-loop-i l = count is_gone l.t
