@@ -34,6 +34,7 @@ fn handle_request(
 }
 
 // A request from a client. A table of another length than 320 is refused as what is lent.
+// (The tick begins alike: an SdoAnswer takes no `?`, and a function of both would take the rest of each as a closure.)
 #[tactic(auto, unfolding(crate::specs::Exported::request_bytes, picks::specs::Pick::pick))]
 pub fn sdo_handle_request(
     table: &mut [u8],
@@ -107,6 +108,7 @@ pub fn sdo_tick<'a>(
 }
 
 // The earliest deadline on the table's bytes.
+// (`server` asks the same of a row: here no row is made of the bytes.)
 #[tactic(auto, unfolding(crate::specs::Exported::query_bytes, picks::specs::Pick::pick), using(crate::proofs::Through::query_sound_bytes, crate::proofs::Through::query_unsound_bytes))]
 fn next_action_time(table: &[u8]) -> Result<Option<u64>, Refusal>
     ensures { query_answer (told_next_action result) ≡ query_bytes table.now }

@@ -95,6 +95,7 @@ fn areas_once(t: &[u8; 320]) -> bool
 
 // Whether a record's transfer, if it has one, is sound.
 // (The state's number, here and below: no state is made of the bytes, and where a transfer is none is looked at.)
+#[tactic(auto, unfolding(picks::specs::Pick::pick, format::specs::Format::record_of), using(crate::proofs::Bytes::sound_is))]
 fn sound_state(r: &[u8; 40]) -> bool
     ensures { result ≡ sound_state (record_of r.now).state }
 {

@@ -22,13 +22,13 @@ pub trait Table {
     // The table that is made of records.
     ghost made: { List Connection → Self };
 
-    // The records that a call reads. Where the table holds none, or what the call was given beside it is of no kind (`known` is no), they are records of no sound table: such a call is refused as one on a table that is not sound.
+    // The records that a call reads. They are those of no sound table where the table holds none, or where `known` is no since the client is of no kind: such a call is refused as one on a table that is not sound.
     ghost read: { Bool → Self → List Connection };
 
     // Where they are sound, they are those that the table holds.
     ghost laws: { (known : Bool) (t : Self) → sound_table (read known t) ≡ true → read known t ≡ rows t };
 
-    // Whether a call reads a sound table, which is of eight records in any case.
+    // Whether the records that a call of a known client reads are a sound table's; there are eight of them, sound or not.
     fn is_sound(&self) -> bool
         ensures flag { (known : Bool) → (known && result) ≡ sound_table (read known self.now) }
         ensures eight { (known : Bool) → length (read known self.now) ≡ 8 };

@@ -1,4 +1,4 @@
--- A request that passed the tests of the table's bytes.
+-- A request that passed its tests, on a table in any form.
 use Rattle.std.specs.Prelude.{ℕ, ◌≡◌, ◌<◌, List, Option, IfSome}
 use Rattle.protocol.specs.declared.SdoClientInfo.{SdoClientInfo}
 use Rattle.protocol.specs.declared.Connection.{Connection}

@@ -1,4 +1,4 @@
-// The server (server.rs): a request on a table in any form, and request, tick and deadline query with the table as one value, a row of eight records; the refusals in order. Area, image and answer buffer are lent.
+// The server (server.rs): request, tick and deadline query, with the refusals in order. The table is one value, a row of eight records, or for a request one in any form, changed where it is. Area, image and answer buffer are lent.
 // (Area, image and answer stand apart: a request changes all three, a tick the answer alone, and the tests none, so a struct of references would fit one of them.)
 #![tactic(auto)]
 
@@ -19,12 +19,16 @@ ghost use Rattle.server.specs.Left.{holds_share, served_on, told_to, ticked_call
 ghost use Rattle.protocol.specs.DeadlineQuery.{told_next_action, query_of};
 
 use protocol::{
-    Answered, BufferTooShort, Called, Connection, Left, Refusal, SHARE as PART, SdoClientInfo,
+    Answered, BufferTooShort, Called, Connection, Handled, Left, Refusal, SdoClientInfo,
     SdoResponseData,
 };
 use seats::{Seat, Table};
 
-// A request on a record, whose own part of the area is lent on. (Document 01 finds the part by the record's area number, so its place is counted here.)
+// The bytes of a record's own part of the area.
+// (Document 01 finds the part by the record's area number, so its place is counted here.)
+const PART: usize = protocol::SHARE as usize;
+
+// A request on a record, whose own part of the area is lent on.
 fn serve_share(
     c: Connection,
     area: &mut [u8],
@@ -36,13 +40,12 @@ fn serve_share(
     ensures served { (told_handled result (share_of area.new c.area) image.new ≡ serve c (share_of area.old c.area) image.old clock request.now) }
     ensures area_left { area.new ≡ with_share area.old c.area (share_of area.new c.area) }
 {
-    let part = PART as usize;
-    let from = part * (c.area as usize);
-    let to = from + part;
+    let from = PART * (c.area as usize);
+    let to = from + PART;
     sequence_handler::handle_request(c, &mut area[from..to], image, clock, request)
 }
 
-// The same for an area of any length: one that does not hold the record's part is refused with 1. (The part is found by its number too.)
+// The same for an area of any length: one that does not hold the record's part is refused with 1.
 #[tactic(auto, unfolding(picks::specs::Pick::pick, protocol::specs::Constants::SHARE))]
 pub fn serve_record(
     c: Connection,
@@ -54,8 +57,7 @@ pub fn serve_record(
     ensures served { told_handled result (share_of area.new c.area) image.new ≡ served_on c area.old image.old clock request.now }
     ensures area_left { area.new ≡ pick (holds_share c area.old) (with_share area.old c.area (share_of area.new c.area)) area.old }
 {
-    let part = PART as usize;
-    if area.len() < part * (c.area as usize) + part {
+    if area.len() < PART * (c.area as usize) + PART {
         return Left {
             connection: c,
             said: Err(Refusal::Lent),
@@ -64,7 +66,7 @@ pub fn serve_record(
     serve_share(c, area, image, clock, request)
 }
 
-// An answer's bytes in the answer buffer; a piece stands in the record's own part of the area. (It is found by its number too.)
+// An answer's bytes in the answer buffer; a piece stands in the record's own part of the area.
 #[tactic(auto, unfolding(protocol::specs::Constants::SHARE))]
 pub fn put_answer<'a>(
     r: SdoResponseData,
@@ -76,8 +78,7 @@ pub fn put_answer<'a>(
     ensures told { told_written result ≡ answer_written (told_reply r (share_of area.now number) image.now) answer.old }
     ensures left { answer.new ≡ answer_left (told_reply r (share_of area.now number) image.now) answer.old }
 {
-    let part = PART as usize;
-    let share = octets::part(area, part * (number as usize), part);
+    let share = octets::part(area, PART * (number as usize), PART);
     answer::write_answer(r, share, image, answer)
 }
 
@@ -152,13 +153,11 @@ fn admitted<T: Table>(
 {
     let place = t.place_of(client);
     let free = t.unused_place();
-    match refusals::check_frame(request.len(), place.is_none() & free.is_none()) {
-        Ok(()) => accepted(t, area, image, answer, client, place, free, clock, request),
-        Err(x) => Err(x),
-    }
+    refusals::check_frame(request.len(), place.is_none() & free.is_none())?;
+    accepted(t, area, image, answer, client, place, free, clock, request)
 }
 
-// A request on a table in any form. Refusals 1 to 7 leave the table as it was.
+// A request on a table in any form; `known` says whether its client is of a kind. Refusals 1 to 7 leave the table as it was.
 pub fn request_on<T: Table>(
     t: &mut T,
     known: bool,
@@ -187,6 +186,7 @@ pub fn handle_request(
 ) -> Called<Answered>
     ensures { told_requested result answer.new area.new image.new ≡ request_of client clock request.now image.old answer.old t area.old }
 {
+    // (A client by value is of a kind.)
     let outcome = request_on(&mut t, true, area, image, answer, client, clock, request);
     Called { outcome, table: t }
 }
