@@ -77,7 +77,7 @@ fn is_ordered(t: &[u8; 320]) -> bool
 }
 
 // Area numbers 0 to 7, each once.
-// (A test that there is a flag for the number: none stands for no number. `table` reads the numbers of a row of records.)
+// (`table` has this loop with a record's number. One function of an iterator of the numbers would have to ask its callers that it ends, and what is public asks nothing.)
 fn areas_once(t: &[u8; 320]) -> bool
     ensures { result ≡ areas_once (table_of t.now) }
 {
@@ -85,9 +85,9 @@ fn areas_once(t: &[u8; 320]) -> bool
     let mut seen = [false; 8];
     for r in rows {
         let area = r[9] as usize;
-        if 8 <= area || seen[area] {
+        let Some(false) = seen.get(area) else {
             return false;
-        }
+        };
         seen[area] = true;
     }
     true

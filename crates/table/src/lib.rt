@@ -59,7 +59,7 @@ fn is_ordered(t: [Connection; 8]) -> bool
 }
 
 // Area numbers 0 to 7, each once.
-// (packed has this loop with the number read from a record's bytes: a shared one would want the eight numbers copied out)
+// (`packed` has this loop with the number read from a record's bytes. One function of an iterator of the numbers would have to ask its callers that it ends, and what is public asks nothing.)
 fn areas_once(t: [Connection; 8]) -> bool
     ensures { result ≡ areas_once t }
 {
