@@ -1,2 +1,1 @@
 pub mod OtherLength
-pub mod Search

@@ -1,8 +1,7 @@
 // The way in: request, tick and deadline query over a lent table, beside the lent area, image and answer buffer. A table of another length than eight is refused with 1, and all is left.
 #![tactic(auto)]
 
-ghost use Rattle.std.specs.Prelude.{◌≡◌, ◌≢◌, length, IfOk, IfErr};
-ghost use Rattle.protocol.specs.declared.Refusal.TheVariants.{Lent};
+ghost use Rattle.std.specs.Prelude.{◌≡◌};
 ghost use Rattle.protocol.specs.Request.{told_outcome, request_of};
 ghost use Rattle.protocol.specs.Tick.{told_ticked, tick_of};
 ghost use Rattle.protocol.specs.DeadlineQuery.{told_next_action, query_of};
@@ -10,16 +9,8 @@ ghost use Rattle.lent.specs.Lent.{called};
 
 use protocol::{Answered, Connection, Refusal, SdoClientInfo};
 
-// A lent table as a row of eight records.
-fn row_of(table: &[Connection]) -> Result<&[Connection; 8], Refusal>
-    ensures loaded { IfOk result (λ row. row.now ≡ table.now) }
-    ensures long { IfOk result (λ row. length table.now ≡ 8) }
-    ensures refused { IfErr result (λ x. (length table.now ≢ 8) × (x ≡ Lent)) }
-{
-    table.as_array().ok_or(Refusal::Lent)
-}
-
 // A request from a client. A refusal leaves what its row of document 01's table says.
+// (`known` is yes: a client by value is of a kind.)
 pub fn handle_request(
     table: &mut [Connection],
     area: &mut [u8],
@@ -31,14 +22,11 @@ pub fn handle_request(
 ) -> Result<Answered, Refusal>
     ensures { called (told_outcome result) answer.new table.new area.new image.new ≡ request_of client clock request.now image.old answer.old table.old area.old }
 {
-    let Some(row) = table.as_mut_array() else {
-        return Err(Refusal::Lent);
-    };
-    server::request_on(row, true, area, image, answer, client, clock, request)
+    let t = table.as_mut_array().ok_or(Refusal::Lent)?;
+    server::request_on(t, true, area, image, answer, client, clock, request)
 }
 
 // A tick of the clock.
-// (the row is loaded and saved here: a tick drops records of a row by value)
 pub fn tick<'t, 'a, 'b>(
     table: &'t mut [Connection],
     area: &'a [u8],
@@ -48,10 +36,10 @@ pub fn tick<'t, 'a, 'b>(
 ) -> Result<Option<Answered>, Refusal>
     ensures { called (told_ticked result) answer.new table.new area.now image.now ≡ tick_of clock image.now answer.old table.old area.now }
 {
-    let row = *row_of(table)?;
-    let due = row::due_place(table, clock);
-    let called = server::tick_at(row, due, area, image, answer, clock);
-    table.copy_from_slice(&called.table);
+    let row = table.as_mut_array().ok_or(Refusal::Lent)?;
+    let called = server::tick(*row, area, image, answer, clock);
+    let left = called.table;
+    *row = left;
     called.outcome
 }
 
@@ -59,8 +47,5 @@ pub fn tick<'t, 'a, 'b>(
 pub fn next_action_time(table: &[Connection]) -> Result<Option<u64>, Refusal>
     ensures { told_next_action result ≡ query_of table.now }
 {
-    if table::is_sound(*row_of(table)?) {
-        return Ok(row::earliest(table));
-    }
-    Err(Refusal::Table)
+    server::next_action_time(*table.as_array().ok_or(Refusal::Lent)?)
 }

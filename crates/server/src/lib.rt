@@ -175,6 +175,7 @@ pub fn request_on<T: Table>(
 }
 
 // A request from a client. A refusal leaves what its row of document 01's table says.
+// (`known` is yes: a client by value is of a kind.)
 pub fn handle_request(
     mut t: [Connection; 8],
     area: &mut [u8],
@@ -186,7 +187,6 @@ pub fn handle_request(
 ) -> Called<Answered>
     ensures { told_requested result answer.new area.new image.new ≡ request_of client clock request.now image.old answer.old t area.old }
 {
-    // (A client by value is of a kind.)
     let outcome = request_on(&mut t, true, area, image, answer, client, clock, request);
     Called { outcome, table: t }
 }
