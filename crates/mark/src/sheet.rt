@@ -78,14 +78,13 @@ struct Sent<'a> {
 
 impl fmt::Display for Sent<'_> {
     fn fmt<W: fmt::Write>(&self, f: &mut fmt::Formatter<W>) -> fmt::Result {
-        let bytes = self.bytes;
-        let frame = frame::read(bytes);
-        let request = Request { frame, bytes };
+        let seen = frame::read(self.bytes);
+        let request = Request(seen);
         write!(f, "{}\n  request: {request}", Client(self.client))?;
-        if is_repeat(self.row, self.client, frame) {
+        if is_repeat(self.row, self.client, seen.frame) {
             f.write_str("; a repeat: it has the number of the frame before")?;
         }
-        write!(f, "{}", Decoded { frame, bytes })
+        write!(f, "{}", Decoded(seen))
     }
 }
 
@@ -141,14 +140,14 @@ impl Sheet {
             book,
         } = marking::answered(self.book, self.exercise, client, request, bytes);
         self.book = book;
-        let frame = frame::read(bytes);
+        let seen = frame::read(bytes);
         let answer = Answer {
-            request: frame::read(request),
-            frame,
+            request: frame::read(request).frame,
+            frame: seen.frame,
             piece,
             reading,
         };
-        print!(rt; "  answer:  {answer}{}", Decoded { frame, bytes })?;
+        print!(rt; "  answer:  {answer}{}", Decoded(seen))?;
         if let Some(Event::Finished(length)) = event {
             self.finish(Finish {
                 call: self.calls,

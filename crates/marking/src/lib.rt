@@ -5,7 +5,7 @@ ghost use Rattle.std.specs.Prelude.{◌≡◌};
 ghost use Rattle.marking.specs.Marks.{asks_of, last_event, reading_event, piece_event, denial_event, denied, with_piece, with_finish, event_marks, marks_after, answered_marks, refused_marks, unmarked_of, denial_mark, unfinished_mark, mark_of, empty_book, anew_book, opens_in, answered_book, refused_book};
 
 use protocol::{ReceiveConnState, SdoClientInfo, SendConnState};
-use reading::frame::Frame;
+use reading::frame::{Frame, Seen};
 use reading::{Piece, Reading, frame, rows};
 
 // An exercise: the object that is to be read, and its length.
@@ -87,12 +87,12 @@ pub enum Mark {
 }
 
 // Whether a request asks for the exercise's object.
-fn asks(e: Exercise, f: Frame, bytes: &[u8]) -> bool
-    ensures { result ≡ asks_of e f bytes.now }
+fn asks(e: Exercise, f: Seen<'_>) -> bool
+    ensures { result ≡ asks_of e f.entry.frame f.entry.bytes.now }
 {
-    let payload = frame::payload(f, bytes);
+    let payload = f.payload();
     let index: u16 = octets::number_at(payload, 0);
-    reading::is_read(f) & (index == e.index) & (octets::byte_at(payload, 2) == e.sub)
+    reading::is_read(f.frame) & (index == e.index) & (octets::byte_at(payload, 2) == e.sub)
 }
 
 // What the last piece of a reading says: a finish where all bytes of the size in Initiate were sent.
@@ -331,19 +331,19 @@ pub fn answered(b: Book, e: Exercise, client: SdoClientInfo, request: &[u8], ans
 {
     let q = frame::read(request);
     let a = frame::read(answer);
-    let piece = reading::piece_of(q, a, answer);
+    let piece = reading::piece_of(q.frame, a);
     let own = rows::own_place(b.readings, client);
     let was = rows::reading_at(b.readings, own);
-    let reading = reading::next_reading(was, client, piece, q, request, a, answer);
+    let reading = reading::next_reading(was, client, piece, q, a);
     let event = piece_event(e, was.running, reading, piece);
-    let asked = asks(e, q, request);
+    let asked = asks(e, q);
     let place = rows::place_for(b.readings, own);
     Noted {
         piece,
         reading,
         event,
         book: Book {
-            marks: after_answered(b.marks, e, opens(a), asked, piece, event),
+            marks: after_answered(b.marks, e, opens(a.frame), asked, piece, event),
             readings: rows::with_reading(b.readings, place, reading),
         },
     }
@@ -354,7 +354,7 @@ pub fn answered(b: Book, e: Exercise, client: SdoClientInfo, request: &[u8], ans
 pub fn refused(b: Book, e: Exercise, request: &[u8], number: u8) -> Book
     ensures { result ≡ refused_book b e request.now number }
 {
-    let asked = asks(e, frame::read(request), request);
+    let asked = asks(e, frame::read(request));
     Book {
         marks: after_refused(b.marks, e, asked, number),
         ..b

@@ -13,6 +13,13 @@ pub enum Frame {
     Command(SequenceLayerHeader, SdoCommand),
 }
 
+// A frame as it was read: decoded, and its bytes.
+#[derive(Clone, Copy)]
+pub struct Seen<'a> {
+    pub frame: Frame,
+    pub bytes: &'a [u8],
+}
+
 // The frame of a header and what stands behind it.
 #[tactic(auto, unfolding(crate::specs::Frame::rest_frame, picks::specs::Pick::pick))]
 fn with_rest(header: SequenceLayerHeader, rest: &[u8]) -> Frame
@@ -29,25 +36,29 @@ fn with_rest(header: SequenceLayerHeader, rest: &[u8]) -> Frame
 
 // The frame of these bytes.
 #[tactic(auto, unfolding(crate::specs::Frame::frame_of))]
-pub fn read(bytes: &[u8]) -> Frame
-    ensures { result ≡ frame_of bytes.now }
+pub fn read(bytes: &[u8]) -> Seen<'_>
+    ensures frame { result.frame ≡ frame_of bytes.now }
+    ensures bytes { result.bytes.now ≡ bytes.now }
 {
-    match sequence::deserialize(bytes) {
+    let frame = match sequence::deserialize(bytes) {
         Ok(header) => with_rest(header, sequence::command_part(bytes)),
         Err(BufferTooShort) => Frame::Short,
-    }
+    };
+    Seen { frame, bytes }
 }
 
-// The frame's payload, as a part of its bytes; empty without a command.
-pub fn payload(f: Frame, bytes: &[u8]) -> &[u8]
-    ensures { result.now ≡ payload_in f bytes.now }
-{
-    match f {
-        Frame::Command(_, command) => command::payload(
-            command.header,
-            sequence::command_part(bytes),
-        ),
-        _ => &[],
+impl<'a> Seen<'a> {
+    // The frame's payload, as a part of its bytes; empty without a command.
+    pub fn payload(self) -> &'a [u8]
+        ensures { result.now ≡ payload_in self.entry.frame self.entry.bytes.now }
+    {
+        match self.frame {
+            Frame::Command(_, command) => command::payload(
+                command.header,
+                sequence::command_part(self.bytes),
+            ),
+            _ => &[],
+        }
     }
 }
 

@@ -8,14 +8,14 @@ ghost use Rattle.std.specs.Prelude.{◌≡◌, ◌+◌, ◌-◌, min, length, fo
 ghost use Rattle.reading.specs.Frame.{payload_in};
 ghost use Rattle.reading.specs.Reading.{REGISTER as FIRST, crc_bit, crc_bits, crc_byte, is_read, named, nobody, upload_piece, short_piece, piece_of, about_of, afresh, further, over, reading_after};
 
-use frame::Frame;
+use frame::{Frame, Seen};
 use protocol::{
     CommandId, CommandLayerHeader, ReceiveConnState, SdoClientInfo, SdoCommand, Segmentation,
     SendConnState, SequenceLayerHeader,
 };
 
-// What an answer is to a reading (an answer that is no part of it has words on the sheet too, so it is a variant and no None): no part of it, the whole value, its first piece with the size in Initiate, a later one, the last one, a piece sent before, or an abort with its code.
-// (a frame may hold any number behind an abort, so the code stays a number)
+// What an answer is to a reading: no part of it, the whole value, its first piece with the size in Initiate, a later one, the last one, a piece sent before, or an abort with its code.
+// (An answer that is no part of a reading has words on the sheet too, so it is a variant and no None; a frame may hold any number behind an abort, so the code stays a number.)
 #[derive(Clone, Copy)]
 pub enum Piece {
     Other,
@@ -27,7 +27,8 @@ pub enum Piece {
     Abort(u32),
 }
 
-// A client's reading of an object (one that is over keeps its numbers for the sheet, so that `running` is no Option round them): whether it is running, the size in Initiate, how many bytes were sent, and the CRC-32's register after them.
+// A client's reading of an object: whether it is running, the size in Initiate, how many bytes were sent, and the CRC-32's register after them.
+// (One that is over keeps its numbers for the sheet, so that `running` is no Option round them.)
 #[derive(Clone, Copy)]
 pub struct Reading {
     pub running: bool,
@@ -136,14 +137,14 @@ fn short_piece(q: Frame, c: CommandLayerHeader) -> Piece
 
 // What an answer is to a request.
 #[tactic(auto, unfolding(crate::specs::Reading::command_piece, picks::specs::Pick::pick))]
-pub fn piece_of(q: Frame, a: Frame, bytes: &[u8]) -> Piece
-    ensures { result ≡ piece_of q a bytes.now }
+pub fn piece_of(q: Frame, a: Seen<'_>) -> Piece
+    ensures { result ≡ piece_of q a.entry.frame a.entry.bytes.now }
 {
-    let Frame::Command(header, command) = a else {
+    let Frame::Command(header, command) = a.frame else {
         return Piece::Other;
     };
     if command.header.aborted {
-        return Piece::Abort(octets::number_at(frame::payload(a, bytes), 0));
+        return Piece::Abort(octets::number_at(a.payload(), 0));
     }
     if command.header.id == CommandId::ReadByIndex {
         return upload_piece(header, command);
@@ -241,13 +242,11 @@ pub fn next_reading(
     was: Reading,
     client: SdoClientInfo,
     p: Piece,
-    q: Frame,
-    request: &[u8],
-    a: Frame,
-    answer: &[u8],
+    q: Seen<'_>,
+    a: Seen<'_>,
 ) -> Reading
-    ensures { result ≡ reading_after (about_of was client p (payload_in q request.now)) p (payload_in a answer.now) }
+    ensures { result ≡ reading_after (about_of was client p (payload_in q.entry.frame q.entry.bytes.now)) p (payload_in a.entry.frame a.entry.bytes.now) }
 {
-    let begun = about(was, client, p, frame::payload(q, request));
-    after_answer(begun, p, frame::payload(a, answer))
+    let begun = about(was, client, p, q.payload());
+    after_answer(begun, p, a.payload())
 }

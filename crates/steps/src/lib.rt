@@ -13,7 +13,7 @@ pub use page::{put_answer, put_request};
 use protocol::{
     CommandId, ReceiveConnState, SdoCommand, Segmentation, SendConnState, SequenceLayerHeader,
 };
-use reading::frame::Frame;
+use reading::frame::{Frame, Seen};
 use reading::{Piece, Reading, frame};
 use std::fmt;
 use wording::{Abort, Code, Object};
@@ -210,23 +210,19 @@ impl fmt::Display for Asked<'_> {
 
 // What a request asks.
 #[derive(Clone, Copy)]
-pub struct Request<'a> {
-    pub frame: Frame,
-    pub bytes: &'a [u8],
-}
+pub struct Request<'a>(pub Seen<'a>);
 
 impl fmt::Display for Request<'_> {
-    ghost output = { λ x. Some (request_text x.frame x.bytes.now) };
+    ghost output = { λ x. Some (request_text x.0.frame x.0.bytes.now) };
 
     #[tactic(auto, unfolding(show::specs::Text::letters))]
     fn fmt<W: fmt::Write>(&self, f: &mut fmt::Formatter<W>) -> fmt::Result {
-        let Request { frame, bytes } = *self;
-        match frame {
+        match self.0.frame {
             Frame::Short => f.write_str("a frame too short to be one"),
             Frame::Empty(header) => f.write_str(empty_step(header)),
             Frame::Unreadable(_) => f.write_str("a command that cannot be read"),
             Frame::Command(header, command) => {
-                let payload = frame::payload(frame, bytes);
+                let payload = self.0.payload();
                 let sent = Sent { command, payload };
                 write!(f, "{}", Asked(Acted { header, sent }))
             }

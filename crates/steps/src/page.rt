@@ -6,7 +6,7 @@ ghost use Rattle.steps.specs.Steps.{named_text, written_text, write_text, looked
 
 use crate::{Acted, Sent, amount, empty_step, opening, other, words_of};
 use protocol::{CommandId, ReceiveConnState, Segmentation};
-use reading::frame::Frame;
+use reading::frame::{Frame, Seen};
 use reading::{Piece, Reading, frame};
 
 // The object that a payload names, where it does.
@@ -99,15 +99,15 @@ fn put_asked(page: &mut [u8], at: usize, a: Acted<'_>) -> usize
 
 // What a request asks.
 #[tactic(auto, unfolding(show::specs::Text::letters))]
-pub fn put_request(page: &mut [u8], at: usize, f: Frame, bytes: &[u8]) -> usize
-    ensures { page_at result page.new ≡ laid (page_at at page.old) (request_text f bytes.now) }
+pub fn put_request(page: &mut [u8], at: usize, f: Seen<'_>) -> usize
+    ensures { page_at result page.new ≡ laid (page_at at page.old) (request_text f.entry.frame f.entry.bytes.now) }
 {
-    match f {
+    match f.frame {
         Frame::Short => show::put(page, at, b"a frame too short to be one"),
         Frame::Empty(header) => show::put(page, at, empty_step(header).as_bytes()),
         Frame::Unreadable(_) => show::put(page, at, b"a command that cannot be read"),
         Frame::Command(header, command) => {
-            let payload = frame::payload(f, bytes);
+            let payload = f.payload();
             let sent = Sent { command, payload };
             put_asked(page, at, Acted { header, sent })
         }

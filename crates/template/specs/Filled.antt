@@ -1,7 +1,13 @@
 -- A template: words with marks in them, each for the next of some numbers. The other letters stand for themselves; no text of this repository needs a mark's letter.
-use Rattle.std.specs.Prelude.{ℕ, List, [], ◌∷◌, ◌++◌, eqb, get_or, drop}
+use Rattle.std.specs.Prelude.{ℕ, List, [], ◌∷◌, ◌++◌, Option, Some, None, eqb, get_or, drop}
 use Rattle.picks.specs.Pick.{pick}
 use Rattle.show.specs.Text.{digits, decimal_text}
+use Rattle.template.specs.declared.Mark.{Mark}
+use Rattle.template.specs.declared.Mark.TheVariants.{Decimal, LastSix, Hex2, Hex4, Hex8}
+
+-- the mark that a letter is, if it is one
+unfoldable pub mark_of : ℕ → Option Mark
+mark_of c = pick (eqb c 35) (Some Decimal) (pick (eqb c 94) (Some LastSix) (pick (eqb c 64) (Some Hex2) (pick (eqb c 38) (Some Hex4) (pick (eqb c 42) (Some Hex8) None))))
 
 -- what a letter stands for, at a number
 unfoldable pub letter_text : ℕ → ℕ → List ℕ

@@ -1,9 +1,20 @@
 // Words with numbers in them, laid on a page: a template has a mark for each number.
+// (Its callers lay words on any page, beside the impls of Display that print the same: they cannot fail, while a Formatter may.)
 #![tactic(auto)]
 
 ghost use Rattle.std.specs.Prelude.{◌<◌, ◌≤◌, ◌≡◌, drop};
 ghost use Rattle.show.specs.Text.{page_at, laid, digits};
-ghost use Rattle.template.specs.Filled.{letter_text, taken, filled};
+ghost use Rattle.template.specs.Filled.{mark_of, letter_text, taken, filled};
+
+// A mark: a number in decimal or its last six digits, or its last digits in hex.
+#[derive(Clone, Copy)]
+enum Mark {
+    Decimal,
+    LastSix,
+    Hex2,
+    Hex4,
+    Hex8,
+}
 
 // The last k digits of a number.
 #[tactic(auto, unfolding(show::specs::Text::digits), using(show::proofs::Laid::laid_none, show::proofs::Laid::laid_laid, crate::proofs::Filling::digit_below))]
@@ -19,31 +30,45 @@ fn put_digits(page: &mut [u8], at: usize, n: u64, base: u64, k: u8) -> usize
     show::put(page, at, &[show::digit(n % base)])
 }
 
-// What a letter of a template stands for, at a number.
-// (a mark is a letter of the text, read once and here)
-#[tactic(auto, unfolding(crate::specs::Filled::letter_text, picks::specs::Pick::pick))]
+// The mark that a letter of a template is, if it is one.
+#[tactic(auto, unfolding(crate::specs::Filled::mark_of, picks::specs::Pick::pick))]
+fn mark_of(letter: u8) -> Option<Mark>
+    ensures { result ≡ mark_of letter }
+{
+    match letter {
+        b'#' => Some(Mark::Decimal),
+        b'^' => Some(Mark::LastSix),
+        b'@' => Some(Mark::Hex2),
+        b'&' => Some(Mark::Hex4),
+        b'*' => Some(Mark::Hex8),
+        _ => None,
+    }
+}
+
+// What a letter stands for, at a number.
+#[tactic(auto, unfolding(crate::specs::Filled::mark_of, crate::specs::Filled::letter_text, picks::specs::Pick::pick))]
 fn put_letter(page: &mut [u8], at: usize, letter: u8, n: u64) -> usize
     ensures { page_at result page.new ≡ laid (page_at at page.old) (letter_text letter n) }
 {
-    match letter {
-        b'#' => show::put_number(page, at, n),
-        b'^' => put_digits(page, at, n, 10, 6),
-        b'@' => put_digits(page, at, n, 16, 2),
-        b'&' => put_digits(page, at, n, 16, 4),
-        b'*' => put_digits(page, at, n, 16, 8),
-        _ => show::put(page, at, &[letter]),
+    match mark_of(letter) {
+        Some(Mark::Decimal) => show::put_number(page, at, n),
+        Some(Mark::LastSix) => put_digits(page, at, n, 10, 6),
+        Some(Mark::Hex2) => put_digits(page, at, n, 16, 2),
+        Some(Mark::Hex4) => put_digits(page, at, n, 16, 4),
+        Some(Mark::Hex8) => put_digits(page, at, n, 16, 8),
+        None => show::put(page, at, &[letter]),
     }
 }
 
 // The numbers that a letter leaves: a mark takes the first.
-#[tactic(auto, unfolding(crate::specs::Filled::taken, picks::specs::Pick::pick))]
+#[tactic(auto, unfolding(crate::specs::Filled::mark_of, crate::specs::Filled::taken, picks::specs::Pick::pick))]
 fn left_by(letter: u8, numbers: &[u64]) -> &[u64]
     ensures { result.now ≡ drop (taken letter) numbers.now }
 {
-    match letter {
-        b'#' | b'^' | b'@' | b'&' | b'*' => numbers.get(1..).unwrap_or(&[]),
-        _ => numbers,
+    if mark_of(letter).is_some() {
+        return numbers.get(1..).unwrap_or(&[]);
     }
+    numbers
 }
 
 // A template goes to a page, with the numbers at its marks; a mark for which none is left has 0.

@@ -15,7 +15,7 @@ use protocol::{
     CommandId, CommandLayerHeader, ReceiveConnState, SdoClientInfo, SdoCommand, Segmentation,
     SendConnState, SequenceLayerHeader,
 };
-use reading::frame::Frame;
+use reading::frame::{Frame, Seen};
 use show::Start;
 use std::fmt;
 use std::net::Ipv4Addr;
@@ -331,17 +331,14 @@ impl fmt::Display for Parts {
 
 // A frame decoded, and its first bytes.
 #[derive(Clone, Copy)]
-pub struct Decoded<'a> {
-    pub frame: Frame,
-    pub bytes: &'a [u8],
-}
+pub struct Decoded<'a>(pub Seen<'a>);
 
 impl fmt::Display for Decoded<'_> {
-    ghost output = { λ x. Some (frame_text x.frame x.bytes.now) };
+    ghost output = { λ x. Some (frame_text x.0.frame x.0.bytes.now) };
 
     fn fmt<W: fmt::Write>(&self, f: &mut fmt::Formatter<W>) -> fmt::Result {
-        let bytes = self.bytes;
+        let Seen { frame, bytes } = self.0;
         let start = Start { bytes, shown: 24 };
-        write!(f, "{}\n    bytes:  {start}\n", Parts(self.frame))
+        write!(f, "{}\n    bytes:  {start}\n", Parts(frame))
     }
 }

@@ -6,7 +6,7 @@ ghost use Rattle.wording.specs.Words.{clock_text, mac_text, node_text, port_text
 
 use crate::{flagged, meaning_of, name_of, received, refusal_of, segmentation_of, sent};
 use protocol::{CommandLayerHeader, SdoClientInfo, SdoCommand, Segmentation, SequenceLayerHeader};
-use reading::frame::Frame;
+use reading::frame::{Frame, Seen};
 
 // A clock of microseconds, in seconds.
 #[tactic(auto, unfolding(show::specs::Text::letters, template::specs::Filled::filled, template::specs::Filled::letter_text, template::specs::Filled::taken, picks::specs::Pick::pick, crate::specs::Words::clock_text))]
@@ -175,11 +175,11 @@ fn put_parts(page: &mut [u8], at: usize, f: Frame) -> usize
 
 // A frame decoded, and its first bytes.
 #[tactic(auto, unfolding(show::specs::Text::letters, crate::specs::Words::frame_text), using(show::proofs::Laid::laid_laid))]
-pub fn put_frame(page: &mut [u8], at: usize, f: Frame, bytes: &[u8]) -> usize
-    ensures { page_at result page.new ≡ laid (page_at at page.old) (frame_text f bytes.now) }
+pub fn put_frame(page: &mut [u8], at: usize, f: Seen<'_>) -> usize
+    ensures { page_at result page.new ≡ laid (page_at at page.old) (frame_text f.entry.frame f.entry.bytes.now) }
 {
-    let at = put_parts(page, at, f);
+    let at = put_parts(page, at, f.frame);
     let at = show::put(page, at, b"\n    bytes:  ");
-    let at = show::put_start(page, at, bytes, 24);
+    let at = show::put_start(page, at, f.bytes, 24);
     show::put(page, at, b"\n")
 }
