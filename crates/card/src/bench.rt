@@ -34,6 +34,7 @@ impl fmt::Display for Left {
     }
 }
 
+// (Two of the states have a transfer, which is dropped here, so each variant is said.)
 impl From<SdoServerState> for Left {
     fn from(state: SdoServerState) -> Self {
         match state {
@@ -47,6 +48,7 @@ impl From<SdoServerState> for Left {
 }
 
 // What a call leaves, by its word.
+// (The card's lines have three such words, and the third, dropped, is read as any other would be.)
 impl From<&str> for Left {
     fn from(word: &str) -> Self {
         match word {

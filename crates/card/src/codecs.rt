@@ -1,9 +1,10 @@
 // Rows that a codec decides.
 use crate::rows;
 use crate::rows::{Row, Score};
+use handlers::NIL;
 use protocol::{
-    BufferTooShort, CommandId, CommandLayerHeader, ReceiveConnState, SdoCommand, Segmentation,
-    SendConnState, SequenceLayerHeader,
+    BufferTooShort, CommandId, CommandLayerHeader, ReceiveConnState, SdoCommand, SendConnState,
+    SequenceLayerHeader,
 };
 use std::io;
 use std::io::Write;
@@ -49,20 +50,10 @@ fn next_row(rt: &impl Print, score: &mut Score, row: Row) -> io::Result<()> {
     rows::say(rt, score, Row { given: "", ..row }, &[next])
 }
 
-// The header of an Expedited Nil answer without a payload.
-const ANSWER: CommandLayerHeader = CommandLayerHeader {
-    transaction: 0,
-    response: true,
-    aborted: false,
-    segmentation: Segmentation::Expedited,
-    id: CommandId::Nil,
-    size: 0,
-};
-
-// The same of an abort.
+// The header of an abort without a payload.
 const ABORT: CommandLayerHeader = CommandLayerHeader {
     aborted: true,
-    ..ANSWER
+    ..NIL
 };
 
 // An answer to a transaction is encoded, with the bytes after the transaction as its payload.
@@ -137,7 +128,7 @@ fn line_row(rt: &impl Print, score: &mut Score, line: &str) -> io::Result<()> {
         b'H' => header_row(rt, score, row),
         b'R' => header_read_row(rt, score, row),
         b'N' => next_row(rt, score, row),
-        b'A' => answer_row(rt, score, ANSWER, row),
+        b'A' => answer_row(rt, score, NIL, row),
         b'X' => answer_row(rt, score, ABORT, row),
         b'C' => command_read_row(rt, score, row),
         b'I' => id_row(rt, score, row),

@@ -34,13 +34,9 @@ fn argument(rt: &impl Env, i: usize, radix: u16) -> Option<u16>
 
 // How many arguments there are, the program's name among them: 5 stands for more than 4.
 fn argument_count(rt: &impl Env) -> usize {
-    let mut text = [0; 8];
-    for i in 0..5 {
-        if let Err(FillError::NotPresent) = rt.arg(i, &mut text) {
-            return i;
-        }
-    }
-    5
+    (0..5)
+        .find(|i| matches!(rt.arg(*i, &mut [0; 8]), Err(FillError::NotPresent)))
+        .unwrap_or(5)
 }
 
 // The exercise of three arguments.

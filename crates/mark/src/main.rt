@@ -31,13 +31,9 @@ impl<P: Print> Player for Marking<'_, P> {
     fn play(&mut self, item: &[u8]) -> io::Result<bool> {
         let before = self.lent.table;
         let mut answer = [0; ANSWER];
-        let played = script::play(
-            item,
-            self.lent,
-            &mut self.area,
-            &mut self.image,
-            &mut answer,
-        );
+        let played = self
+            .lent
+            .play(item, &mut self.area, &mut self.image, &mut answer);
         self.lent = played.lent;
         match played.done {
             Done::Unknown => return Ok(false),

@@ -1,16 +1,12 @@
 // Calls the server many times, with its row by value or lent, for measuring: tools/lent-cost runs it. Standard input's first byte says which call: r, t or q by value, R, T or Q lent. It prints how often it called, and whether a client has a record then.
 #![tactic(auto)]
 
-use protocol::{Connection, Refusal, SdoClientInfo};
+use protocol::{ANSWER_MIN, AREA, Connection, Refusal, SdoClientInfo};
 use std::io;
 use std::io::Read;
 
-// The buffers' lengths.
-const AREA: usize = 65536;
-
+// The length of an image with no entry.
 const IMAGE: usize = 2;
-
-const ANSWER: usize = 1468;
 
 // How often it is called.
 const CALLS: u64 = 200000;
@@ -27,6 +23,7 @@ enum Call {
 }
 
 // The call of a letter: where no other has it, a query, which is lent if the letter is a capital.
+// (Each letter has its own variant, so the two are said one beside the other.)
 impl From<u8> for Call {
     fn from(letter: u8) -> Self {
         match letter {
@@ -75,7 +72,7 @@ fn turn(
 fn main(rt: HostRuntime) -> io::Result<()> {
     let mut area = [0u8; AREA];
     let mut image = [0u8; IMAGE];
-    let mut answer = [0u8; ANSWER];
+    let mut answer = [0u8; ANSWER_MIN];
     let mut letter = [0u8; 1];
     rt.reader().read(&mut letter)?;
     let call = Call::from(letter[0]);

@@ -14,7 +14,7 @@ use crate::{
 };
 
 // The receive mark of a number from 0 to 3, and its number.
-// (A cast goes from a variant to its number and not back, so this and the two alike below say each variant; one function for the three would be handed the four variants, and these are all that they are.)
+// (A cast goes from a variant to its number and not back, so this and all that read a number below say each variant; one function for the three of four variants would be handed the four, and these are all that they are.)
 impl From<u8> for ReceiveConnState {
     ghost from_gives = { λ n m. m ≡ receive_mark_of n };
 

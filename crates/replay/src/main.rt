@@ -25,13 +25,9 @@ impl<W: Write> Player for Replay<W> {
     // A call's part of the transcript is written.
     fn play(&mut self, item: &[u8]) -> io::Result<bool> {
         let mut answer = [0; ANSWER];
-        let played = script::play(
-            item,
-            self.lent,
-            &mut self.area,
-            &mut self.image,
-            &mut answer,
-        );
+        let played = self
+            .lent
+            .play(item, &mut self.area, &mut self.image, &mut answer);
         self.lent = played.lent;
         match played.done {
             Done::Unknown => return Ok(false),

@@ -47,6 +47,7 @@ fn put_told(told: Told, answer: &[u8; ANSWER], out: &mut impl Write) -> io::Resu
 }
 
 // A call's part of the transcript: what the call says, whether it left the buffer that was lent past the answer alone, the table, and the sums of the area and the image.
+// (It writes to a writer, which may fail; a part laid into a lent buffer could not, and would be copied out of it once more.)
 pub fn put_entry(
     told: Told,
     lent: Lent,

@@ -5,10 +5,10 @@ pub mod told;
 
 ghost use Rattle.std.specs.Prelude.{◌≡◌, ◌≤◌, length};
 ghost use Rattle.script.specs.Outcomes.{said};
-ghost use Rattle.script.specs.Playing.{at_start, did, left, lends, unknown, calls, image_lent, image_stored, table_lent, filled, lengths_lent, lent_area, blank, request_on, tick_on, query_on, request_played, play_of};
+ghost use Rattle.script.specs.Playing.{at_start, did, left, calls, image_lent, image_stored, table_lent, filled, lengths_lent, lent_area, blank, request_on, tick_on, query_on, request_played, play_of};
 
 use items::{Item, UnknownItem};
-use protocol::{Connection, Refusal};
+use protocol::{ANSWER_MIN, Connection, Refusal};
 use told::Told;
 
 // The buffers: an image, the answer, and the area as far as it can be lent.
@@ -19,7 +19,7 @@ pub const ANSWER: usize = 1600;
 pub const LENT_AREA: usize = 65600;
 
 // The area's own length.
-pub const AREA: usize = 65536;
+pub const AREA: usize = protocol::AREA;
 
 // What every byte of the answer buffer is before a call.
 pub const FILL: u8 = 0xA5;
@@ -85,34 +85,18 @@ fn records_of(table: [Connection; 8]) -> u8
 }
 
 impl Lent {
+    // What is played, with what is lent after it.
+    fn played(self, done: Done) -> Played
+        ensures { (result.done ≡ done) × (result.lent ≡ self) }
+    {
+        Played { done, lent: self }
+    }
+
     // A call, with the table that it leaves.
     fn calls(self, told: Told, table: [Connection; 8]) -> Played
         ensures { (did result ≡ calls (said told) self table) × (length table ≡ 8) }
     {
-        Played {
-            done: Done::Calls(told),
-            lent: Lent { table, ..self },
-        }
-    }
-
-    // An item that there is not.
-    fn unknown(self) -> Played
-        ensures { did result ≡ unknown self }
-    {
-        Played {
-            done: Done::Unknown,
-            lent: self,
-        }
-    }
-
-    // An item that lends something.
-    fn lends(self) -> Played
-        ensures { did result ≡ lends self }
-    {
-        Played {
-            done: Done::Lends,
-            lent: self,
-        }
+        Lent { table, ..self }.played(Done::Calls(told))
     }
 
     // Item 4: an image is lent.
@@ -121,15 +105,12 @@ impl Lent {
         ensures { (did result ≡ image_lent item.now self) × (image.new ≡ image_stored item.now image.old) }
     {
         let n: u32 = octets::number_at(item, 1);
-        if 131072 < n {
-            return self.unknown();
+        let n = n as usize;
+        if IMAGE < n {
+            return self.played(Done::Unknown);
         }
-        octets::copy_at(image, 0, octets::part(item, 5, n as usize));
-        Lent {
-            image: n as usize,
-            ..self
-        }
-        .lends()
+        octets::copy_at(image, 0, octets::part(item, 5, n));
+        Lent { image: n, ..self }.played(Done::Lends)
     }
 
     // Item 5: a table is lent.
@@ -139,13 +120,13 @@ impl Lent {
     {
         let s = octets::rest(item, 1);
         if !record::is_table(s) {
-            return self.unknown();
+            return self.played(Done::Unknown);
         }
         Lent {
             table: record::table_of(s),
             ..self
         }
-        .lends()
+        .played(Done::Lends)
     }
 
     // Item 7: how much is lent.
@@ -155,18 +136,19 @@ impl Lent {
     {
         let answer: u32 = octets::number_at(item, 1);
         let area: u32 = octets::number_at(item, 5);
+        let (answer, area) = (answer as usize, area as usize);
         let records = octets::byte_at(item, 9);
-        let fit = (answer <= 1600) & (area <= 65600) & (records <= LENT_RECORDS);
+        let fit = (answer <= ANSWER) & (area <= LENT_AREA) & (records <= LENT_RECORDS);
         if !fit {
-            return self.unknown();
+            return self.played(Done::Unknown);
         }
         Lent {
-            answer: answer as usize,
-            area: area as usize,
+            answer,
+            area,
             records,
             ..self
         }
-        .lends()
+        .played(Done::Lends)
     }
 
     // A request on what is lent of the buffers. A table of another length than the server's is refused here: the server cannot be given one.
@@ -257,7 +239,7 @@ impl Lent {
             ready(area, answer);
             return self.call_request(item, area, image, answer);
         }
-        self.unknown()
+        self.played(Done::Unknown)
     }
 
     // Item 2: a tick.
@@ -281,31 +263,31 @@ impl Lent {
         ready(area, answer);
         self.call_query()
     }
-}
 
-// Plays an item: it lends something, or a call answers into the buffer.
-#[tactic(auto, unfolding(crate::specs::Playing::play_of, items::specs::Items::by_kind, items::specs::Kinds::item_of, picks::specs::Pick::pick))]
-pub fn play(
-    item: &[u8],
-    lent: Lent,
-    area: &mut [u8; LENT_AREA],
-    image: &mut [u8; IMAGE],
-    answer: &mut [u8; ANSWER],
-) -> Played
-    ensures { left (did result) area.new image.new answer.new ≡ play_of item.now lent area.old image.old answer.old }
-{
-    match Item::try_from(octets::byte_at(item, 0)) {
-        Ok(Item::Request) => lent.play_request(item, area, image, answer),
-        Ok(Item::Tick) => lent.play_tick(item, area, image, answer),
-        Ok(Item::Query) => lent.play_query(area, answer),
-        Ok(Item::Image) => lent.lend_image(item, image),
-        Ok(Item::Table) => lent.lend_table(item),
-        Ok(Item::Area) => {
-            fill_area(octets::byte_at(item, 1), area);
-            lent.lends()
+    // Plays an item: it lends something, or a call answers into the buffer.
+    #[tactic(auto, unfolding(crate::specs::Playing::play_of, items::specs::Items::by_kind, items::specs::Kinds::item_of, picks::specs::Pick::pick))]
+    pub fn play(
+        self,
+        item: &[u8],
+        area: &mut [u8; LENT_AREA],
+        image: &mut [u8; IMAGE],
+        answer: &mut [u8; ANSWER],
+    ) -> Played
+        ensures { left (did result) area.new image.new answer.new ≡ play_of item.now self area.old image.old answer.old }
+    {
+        match Item::try_from(octets::byte_at(item, 0)) {
+            Ok(Item::Request) => self.play_request(item, area, image, answer),
+            Ok(Item::Tick) => self.play_tick(item, area, image, answer),
+            Ok(Item::Query) => self.play_query(area, answer),
+            Ok(Item::Image) => self.lend_image(item, image),
+            Ok(Item::Table) => self.lend_table(item),
+            Ok(Item::Area) => {
+                fill_area(octets::byte_at(item, 1), area);
+                self.played(Done::Lends)
+            }
+            Ok(Item::Lengths) => self.lend_lengths(item),
+            Err(UnknownItem(_)) => self.played(Done::Unknown),
         }
-        Ok(Item::Lengths) => lent.lend_lengths(item),
-        Err(UnknownItem(_)) => lent.unknown(),
     }
 }
 
@@ -314,7 +296,7 @@ pub fn begun() -> Lent
     ensures { result ≡ at_start }
 {
     Lent {
-        answer: 1468,
+        answer: ANSWER_MIN,
         area: AREA,
         records: RECORDS,
         image: 2,

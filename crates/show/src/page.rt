@@ -1,5 +1,6 @@
 // Texts, numbers and bytes laid on a lent page, whatever it holds. A page has a place, where the next text goes; what does not fit is dropped.
-// (each has the page and the place as parameters: a struct of both would be made anew and taken apart in every public function, which takes them so)
+// (The texts stand here beside the impls that print them: these answer on every page and cannot fail, while a Formatter may.)
+// (Each has the page and the place as parameters: a struct of both would be made anew and taken apart in every public function, which takes them so.)
 ghost use Rattle.std.specs.Prelude.{◌≡◌, ◌%◌};
 ghost use Rattle.show.specs.Text.{page_at, laid, digit_of, hex_text, decimal_text, bytes_text, start_text, line_of};
 

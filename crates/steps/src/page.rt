@@ -1,5 +1,6 @@
 // The same words laid on a page, whatever it holds.
-// (each has the page and the place as parameters: a struct of both would be made anew and taken apart in every public function, which takes them so)
+// (The texts stand here beside the impls that print them: these answer on every page and cannot fail, while a Formatter may.)
+// (Each has the page and the place as parameters: a struct of both would be made anew and taken apart in every public function, which takes them so.)
 ghost use Rattle.std.specs.Prelude.{◌≡◌};
 ghost use Rattle.show.specs.Text.{page_at, laid};
 ghost use Rattle.steps.specs.Steps.{named_text, written_text, write_text, looked_text, own_abort_text, acted_text, asked_text, request_text, range_text, piece_text, whole_text, aborted_text, answer_text};

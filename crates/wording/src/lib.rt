@@ -93,7 +93,7 @@ impl fmt::Display for Code {
 }
 
 // The meaning of an abort's code.
-// (a frame may hold any number here, so it stays a number)
+// (A frame may hold any number here, so it stays a number: a TryFrom of AbortCode would say these ten numbers, and the match its ten variants besides.)
 #[tactic(auto, unfolding(show::specs::Text::letters, picks::specs::Pick::pick, crate::specs::Words::meaning, crate::specs::Words::text_of))]
 fn meaning_of(code: u32) -> &'static str
     ensures { result.now ≡ meaning code }
@@ -129,7 +129,7 @@ impl fmt::Display for Abort {
 }
 
 // The meaning of a refusal's number.
-// (a recording may hold any number here, so it stays a number)
+// (A caller may give any number, so it stays a number: a TryFrom of Refusal would say these nine numbers, and the match its nine variants besides.)
 #[tactic(auto, unfolding(show::specs::Text::letters, show::specs::Text::entry), using(crate::proofs::Refusals::none_past))]
 fn refusal_of(number: u8) -> &'static str
     ensures { result.now ≡ entry number refusals }
@@ -185,7 +185,7 @@ fn name_of(id: CommandId) -> &'static str
 }
 
 // The word of a sequence header's receive mark.
-// (three enums, and each case of each has a word of its own: they share no line but the match)
+// (Three enums, and each case of each has a word of its own: they share no line but the match.)
 #[tactic(auto, unfolding(show::specs::Text::letters, show::specs::Text::entry))]
 fn received(mark: ReceiveConnState) -> &'static str
     ensures { result.now ≡ entry (receive_mark mark) receive_marks }

@@ -1,5 +1,6 @@
 // The same words laid on a page, whatever it holds.
-// (each has the page and the place as parameters: a struct of both would be made anew and taken apart in every public function, which takes them so)
+// (The texts stand here beside the impls that print them: these answer on every page and cannot fail, while a Formatter may.)
+// (Each has the page and the place as parameters: a struct of both would be made anew and taken apart in every public function, which takes them so.)
 ghost use Rattle.std.specs.Prelude.{◌≡◌, ◌++◌};
 ghost use Rattle.show.specs.Text.{page_at, laid, decimal_text};
 ghost use Rattle.wording.specs.Words.{clock_text, mac_text, node_text, port_text, client_text, code_text, object_text, abort_text, refusal_text, header_text, kind_text, total_text, command_text, decoded_text, frame_text};
