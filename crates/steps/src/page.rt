@@ -5,7 +5,7 @@ ghost use Rattle.std.specs.Prelude.{◌≡◌};
 ghost use Rattle.show.specs.Text.{page_at, laid};
 ghost use Rattle.steps.specs.Steps.{named_text, written_text, write_text, looked_text, own_abort_text, acted_text, asked_text, request_text, range_text, piece_text, whole_text, aborted_text, answer_text};
 
-use crate::{Acted, Sent, amount, empty_step, opening, other, words_of};
+use crate::{Acted, Answer, Sent, amount, empty_step, opening, other, words_of};
 use protocol::{CommandId, ReceiveConnState, Segmentation};
 use reading::frame::{Frame, Seen};
 use reading::{Piece, Reading, frame};
@@ -169,17 +169,18 @@ fn put_aborted(page: &mut [u8], at: usize, a: Frame, code: u32) -> usize
 
 // What an answer gives, and how much of the object is sent then.
 #[tactic(auto, unfolding(show::specs::Text::letters))]
-pub fn put_answer(page: &mut [u8], at: usize, q: Frame, a: Frame, p: Piece, r: Reading) -> usize
-    ensures { page_at result page.new ≡ laid (page_at at page.old) (answer_text q a p r) }
+pub fn put_answer(page: &mut [u8], at: usize, a: Answer) -> usize
+    ensures { page_at result page.new ≡ laid (page_at at page.old) (answer_text a.request a.frame a.piece a.reading) }
 {
-    let n = usize::from(frame::size(a));
-    match p {
-        Piece::Other => show::put(page, at, other(q, a).as_bytes()),
+    let n = usize::from(frame::size(a.frame));
+    let r = a.reading;
+    match a.piece {
+        Piece::Other => show::put(page, at, other(a.request, a.frame).as_bytes()),
         Piece::Whole => put_whole(page, at, r),
         Piece::First(_) => put_piece(page, at, b"the first piece of ", r, n),
         Piece::Next => put_piece(page, at, b"the next piece of ", r, n),
         Piece::Last => put_piece(page, at, b"the last piece of ", r, n),
         Piece::Again => put_piece(page, at, b"once more the last piece sent, of ", r, n),
-        Piece::Abort(code) => put_aborted(page, at, a, code),
+        Piece::Abort(code) => put_aborted(page, at, a.frame, code),
     }
 }

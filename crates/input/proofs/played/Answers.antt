@@ -1,5 +1,4 @@
 -- Each branch is a turn.
-use Rattle.std.proofs.Common.{refl}
 use Rattle.input.specs.Turns.Turns.{none}
 use Rattle.input.proofs.Turns.{reads_more, plays_one}
 use Rattle.input.proofs.played.Goals.{then-bytes-n, else-bytes-n+in_ok-known}
@@ -21,9 +20,3 @@ loop-preserved g c =
           rw (w.player-is, w.reader-is, w.input-is, w.window-is)
           (plays_one _ _ _ _ _ _ _ i u.result.now u.ensures n.result n.ensures _ _ _ _ w.if-bytes-n.false w.part.ensures (rw w.in_ok-known.was at w.play.ensures) w.passed-window.ensures)
     ]
-
-pub returns-after-loop : goal.returns-after-loop
-returns-after-loop g c = (_, c.loop.invariant, refl)
-
-pub returns-then-not-window : goal.returns-then-not-window
-returns-then-not-window g c = (_, c.loop.invariant, refl)
