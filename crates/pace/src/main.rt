@@ -51,7 +51,7 @@ fn turn(
     row: [Connection; 8],
     area: &mut [u8; AREA],
     image: &mut [u8; IMAGE],
-    answer: &mut [u8; ANSWER],
+    answer: &mut [u8; ANSWER_MIN],
 ) -> [Connection; 8] {
     let client = SdoClientInfo::Asnd { node: 1, mac: 1 };
     let request = [1, 1, 0, 0];
