@@ -47,7 +47,7 @@ fn put_told(told: Told, answer: &[u8; ANSWER], out: &mut impl Write) -> io::Resu
 }
 
 // A call's part of the transcript: what the call says, whether it left the buffer that was lent past the answer alone, the table, and the sums of the area and the image.
-// (It writes to a writer, which may fail; a part laid into a lent buffer could not, and would be copied out of it once more.)
+// (It writes to a writer, which may fail, so this may too; laid into a lent buffer it could not, but the buffer would need a length beside it.)
 pub fn put_entry(
     told: Told,
     lent: Lent,
