@@ -13,9 +13,10 @@ or_length : (b : Bool) (k n : ℕ) → ltb k n ≡ b → k ≤ n → unwrap_or (
 or_length true k n e h = refl
 or_length false k n e h = omega (arith, ltb-false k n e)
 
-pub returns : goal.returns
-returns c =
+pub returns-clause-first : goal.returns-clause-first
+returns-clause-first c =
     let a = c.args in
     let all = a.fours.now in
-    let k = position_or_len (is_near_four a.low a.high) all in
-    let first = c.unwrap_or.ensures ∙ ap (λ o. unwrap_or o (length all)) (position_from_yields_List (is_near_four a.low a.high) _ _ c.position-first.result c.position-first.ensures.ran (YieldsList-from_slice all cc) (λ x b q k. search (rules, tests))) ∙ or_length (ltb k (length all)) k (length all) refl (prefix_len-le-length _ all) in record { first = first; within = rw first (prefix_len-le-length _ all) }
+    let near = is_near_four a.low a.high in
+    let k = position_or_len near all in
+    c.unwrap_or.ensures ∙ ap (λ o. unwrap_or o (length all)) (position_from_yields_List near _ _ c.position-first.result c.position-first.ensures.ran (YieldsList-from_slice all cc) (λ x b q k. search (rules, tests))) ∙ or_length (ltb k (length all)) k (length all) refl (prefix_len-le-length _ all)

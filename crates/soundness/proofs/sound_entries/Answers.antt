@@ -7,9 +7,6 @@ use Rattle.soundness.proofs.Walk.{sound_more, sound_not, sound_end}
 use Rattle.soundness.proofs.sound_entries.Goals.{else-loop-i-test, then-loop-i-test+then-not-sound}
 use Rattle.soundness.proofs.sound_entries.Goals as goal
 
-pub loop-i-init : goal.loop-i-init
-loop-i-init c = (refl, search rules, rw (sub-zero c.args.n))
-
 pub loop-i-preserved : goal.loop-i-preserved
 loop-i-preserved c =
     let l = c.loop-i in
