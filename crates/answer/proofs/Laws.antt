@@ -1,33 +1,24 @@
--- The rest of a buffer, and payloads that are parts.
+-- The rest of a buffer, and the length of a frame.
 use Prim.Native.Nat.{ℕ, ◌+◌, ◌-◌, ◌≤◌}
 use native.Mathlib.Omega.{arith}
-use mathlib.Core.Bool.{true}
 use mathlib.Core.Path.{◌≡◌, ap, ◌∙◌}
 use mathlib.Core.List.{List, ◌++◌, append-nil}
 use lib.ListN.{length, take, drop, length-drop}
 use lib.Seq.{take-length, drop-length}
-use Rattle.picks.specs.Pick.{pick}
 use Rattle.octets.specs.Octets.{splice}
 use Rattle.octets.proofs.Splice.{splice_after, splice_splice}
-use Rattle.protocol.specs.declared.Body.{Body}
 use Rattle.protocol.specs.Coding.{put}
 use Rattle.protocol.specs.SequenceHeader.{encode_header}
 use Rattle.protocol.specs.Command.{flag_places, encode_command}
 use Rattle.protocol.specs.ConnectionRecord.{Reply}
 use Rattle.protocol.specs.Calls.{frame}
 use Rattle.protocol.proofs.Coding.{left_fits}
-use Rattle.protocol.specs.TransferRecord.{is_part, body_part, body_bytes}
 
 -- a store in the part from a to the end, said of the whole
 pub splice_rest : (a at : ℕ) (ys xs : List ℕ) → take a xs ++ (splice at ys (take (length xs - a) (drop a xs)) ++ drop (length xs - a) (drop a xs)) ≡ splice (a + at) ys xs
 splice_rest a at ys xs =
     let d = drop a xs in
     rw (← length-drop a xs, take-length d, drop-length d, append-nil (splice at ys d)) (splice_after a at ys xs)
-
--- a payload that is a part is the whole payload
-pub part_whole : (share image : List ℕ) (b : Body) → is_part b ≡ true → body_part share image b ≡ body_bytes share image b
-unfolding pick
-part_whole share image b e = rw e
 
 -- four bytes at the start, and then a store in the rest
 pub laid_behind : (h e answer s z : List ℕ) → length h ≡ 4 → 4 ≤ length answer → s ≡ put h answer → z ≡ splice 0 e (take (length s - 4) (drop 4 s)) → take 4 s ++ (z ++ drop (length s - 4) (drop 4 s)) ≡ splice 0 (h ++ e) answer

@@ -1,8 +1,7 @@
 -- Five stores, one behind the other.
 use Rattle.format.specs.Format.{record_bytes}
-use Rattle.format.proofs.Writing.{length_client, length_state, length_record, record_laid}
-use mathlib.Core.Path.{refl, sym, ap, ◌∙◌}
-use lib.ListN.{length}
+use Rattle.format.proofs.Writing.{length_client, length_state, record_laid}
+use mathlib.Core.Path.{refl}
 use Rattle.record.proofs.lay_record.Goals as goal
 
 pub returns : goal.returns

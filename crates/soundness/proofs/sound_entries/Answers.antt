@@ -1,7 +1,5 @@
 -- The entries are sound if those from the turn's on are, at the key and the start reached. A start within the limit and a capacity for each turn fits a u32.
 use Rattle.std.proofs.Common.{◌-◌, arith, rules}
-use mathlib.Core.Path.{refl}
-use native.Mathlib.Nat.{sub-zero}
 use Rattle.picks.proofs.Picks.{flag}
 use Rattle.soundness.proofs.Walk.{sound_more, sound_not, sound_end}
 use Rattle.soundness.proofs.sound_entries.Goals.{else-loop-i-test, then-loop-i-test+then-not-sound}
