@@ -51,7 +51,8 @@ pub fn object_of(e: Exercise) -> Object {
 
 // Whether a request has the number of the client's frame before, and is no error response.
 fn is_repeat(row: [Connection; 8], client: SdoClientInfo, frame: Frame) -> bool {
-    let record = table::record_of(row, client);
+    let place = table::place_of(row, client);
+    let record = table::record_at(row, place.unwrap_or(8));
     match frame {
         Frame::Short => false,
         Frame::Empty(header) | Frame::Unreadable(header) | Frame::Command(header, _) => {

@@ -121,32 +121,12 @@ pub fn record_at(t: [Connection; 8], i: usize) -> Connection
     t.get(i).copied().unwrap_or(connection::fresh(0))
 }
 
-// The client's record; a fresh one where it has none.
-pub fn record_of(t: [Connection; 8], client: SdoClientInfo) -> Connection
-    ensures { result ≡ record_of client t }
-{
-    match place_of(t, client) {
-        Some(i) => t[i],
-        None => connection::fresh(0),
-    }
-}
-
 // The row with another record at a place; past the end it stays.
 // (a slice's get_mut says nothing of what is written through it, so with it the proof does not close)
 pub fn replaced(mut t: [Connection; 8], i: usize, c: Connection) -> [Connection; 8]
     ensures { result ≡ set t i c }
 {
     if i < t.len() {
-        t[i] = c;
-    }
-    t
-}
-
-// The row with another record in place of the client's; it stays where the client has none.
-pub fn updated(mut t: [Connection; 8], client: SdoClientInfo, c: Connection) -> [Connection; 8]
-    ensures { result ≡ update client c t }
-{
-    if let Some(i) = place_of(t, client) {
         t[i] = c;
     }
     t
