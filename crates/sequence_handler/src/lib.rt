@@ -10,8 +10,8 @@ ghost use Rattle.protocol.specs.ConnectionRecord.{told_handled, told_reply, sequ
 ghost use Rattle.protocol.specs.ConnectionTable.{told_record_ticked, tick_record};
 
 use protocol::{
-    Action, Body, Connection, Handled, Left, ReceiveConnState, Refusal, SdoResponseData, SdoServerState,
-    SendConnState, SequenceLayerHeader,
+    Action, Body, Connection, Handled, Left, ReceiveConnState, Refusal, SdoResponseData,
+    SdoServerState, SendConnState, SequenceLayerHeader,
 };
 
 // What an empty frame does that is no fault: an upload's next piece, or a Nil.
