@@ -182,7 +182,7 @@ fn is_right(came: Came, due: Due, image: &[u8], object: &[u8]) -> bool {
 }
 
 // The end of a call's row: what came, and what was due where that is something else.
-// (both print by Display: this is the step that prints the second or not)
+// (Both print by Display: this is the step that prints the second or not.)
 fn say_outcome(rt: &impl Print, came: Came, due: Due, same: bool) -> io::Result<()> {
     println!(rt; "            {came}")?;
     if !same {
@@ -263,7 +263,7 @@ pub fn script<const N: usize>(
 }
 
 // A tick, on an image that it leaves as it is, and the table after it.
-// (the table and the clock are the tick's own two parameters)
+// (The table and the clock are the tick's own two parameters.)
 pub fn ticks<'a>(
     rt: &impl Print,
     score: &mut Score,

@@ -113,7 +113,7 @@ fn id_row(rt: &impl Print, score: &mut Score, row: Row) -> io::Result<()> {
 }
 
 // A line: a letter for what is done, then what is printed, what is given and what should come. One without bars is a heading.
-// (a letter is read here alone: an enum of the letters would be matched once to be made, and here once more)
+// (A letter is read here alone: an enum of the letters would be matched once to be made, and here once more.)
 fn line_row(rt: &impl Print, score: &mut Score, line: &str) -> io::Result<()> {
     let Some((what, rest)) = line.split_once('|') else {
         return println!(rt; "{line}");

@@ -35,7 +35,7 @@ fn byte_of(digits: &[u8]) -> u8 {
 }
 
 // Puts the bytes of a text at the start of a buffer, as far as it goes, and answers them.
-// (there is no heap: each caller has a buffer as long as its longest text)
+// (There is no heap: each caller has a buffer as long as its longest text.)
 pub fn read<'a>(text: &str, buffer: &'a mut [u8]) -> &'a [u8] {
     for (byte, digits) in buffer.iter_mut().zip(text.as_bytes().chunks(3)) {
         *byte = byte_of(digits);
@@ -61,7 +61,7 @@ pub fn verdict(rt: &impl Print, score: &mut Score, same: bool) -> io::Result<()>
 }
 
 // A row of one line: what is given, in two parts, what came and, where that differs, what the card has.
-// (a row is counted as it is printed, which no Display can do)
+// (A row is counted as it is printed, which no Display can do.)
 pub fn say(rt: &impl Print, score: &mut Score, row: Row, came: &[u8]) -> io::Result<()> {
     let Row {
         what,

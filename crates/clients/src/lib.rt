@@ -7,7 +7,7 @@ ghost use Rattle.format.specs.Format.{client_bytes, client_of, is_client};
 use protocol::SdoClientInfo;
 
 // Whether a client's kind is 0 or 1.
-// (any byte may stand there, and past the end reads as 0, so it stays a number)
+// (Any byte may stand there, and past the end reads as 0, so it stays a number.)
 pub fn is_client(s: &[u8]) -> bool
     ensures { result ≡ is_client s.now }
 {

@@ -12,7 +12,7 @@ use protocol::{
 };
 
 // Whether a state is Opening.
-// (one `matches!`: the state that is asked about is all that differs from `connection::is_closed`)
+// (One `matches!`: the state that is asked about is all that differs from `connection::is_closed`.)
 pub fn is_opening(s: SdoServerState) -> bool
     ensures { result ≡ is_opening s }
 {
@@ -112,7 +112,7 @@ fn rebuilt_state(s: SdoServerState) -> SdoServerState
 }
 
 // The same record, made anew of its parts. A compiler copies a whole value with the gaps between its fields, in moves that overlap, and a processor waits where it loads what it has just stored so; a record made of its parts has nothing in its gaps (docs/SPEED.md).
-// (tried without: a request takes 1 to 7 % more instructions)
+// (Tried without: a request takes 1 to 7 % more instructions.)
 pub fn rebuilt(c: Connection) -> Connection
     ensures { result ≡ c }
 {

@@ -38,7 +38,7 @@ struct UnknownItem;
 impl TryFrom<u8> for Item {
     type Error = UnknownItem;
 
-    // (here the format's numbers become items)
+    // (Here the format's numbers become items.)
     fn try_from(number: u8) -> Result<Self, UnknownItem> {
         match number {
             1 => Ok(Item::HeaderDecode),
@@ -59,7 +59,7 @@ fn limited(n: u16, limit: u16) -> usize
 }
 
 // How long the item at the start of these bytes is. Where they end before the bytes that tell it, the answer is still more than they are.
-// (no twin of items::length_of: the items of another format, which has other numbers, lengths and limits)
+// (No twin of items::length_of: the items of another format, which has other numbers, lengths and limits.)
 fn length_of(s: &[u8]) -> usize {
     match Item::try_from(octets::byte_at(s, 0)) {
         Ok(Item::HeaderDecode) => 2 + usize::from(octets::byte_at(s, 1)),
@@ -133,7 +133,7 @@ fn header_encode(h: SequenceLayerHeader, n: u8, out: &mut impl Write) -> io::Res
 }
 
 // Item 3, decoded: the command's fields, its total (0 without one), and its payload.
-// (the transcript's bytes: the card's row of the same fields has no length, no flag for the total, and another place for it)
+// (The transcript's bytes: the card's row of the same fields has no length, no flag for the total, and another place for it.)
 fn command_decoded(c: SdoCommand, bytes: &[u8], out: &mut impl Write) -> io::Result<()> {
     let h = c.header;
     let payload = command::payload(h, bytes);
@@ -234,7 +234,7 @@ impl<W: Write> Player for Codec<W> {
 }
 
 // Plays the input as far as it goes, and answers where it ended.
-// (replay's player has buffers more, and an output of another size)
+// (`replay`'s player has buffers more, and an output of another size.)
 fn played(rt: &(impl Input + Print + AllocGlobal)) -> io::Result<Window> {
     let mut input = [0; INPUT];
     let mut reader = rt.reader();
@@ -246,7 +246,7 @@ fn played(rt: &(impl Input + Print + AllocGlobal)) -> io::Result<Window> {
 }
 
 // The program. What is not played in the end begins with an item that is cut short or unknown.
-// (replay ends alike: a shared end would be a public function of which no contract can say what it writes to standard error)
+// (`replay` ends alike: a shared end would be a public function of which no contract can say what it writes to standard error.)
 fn main(rt: HostRuntime) -> io::Result<()> {
     let Ok(window) = played(&rt) else {
         return eprintln!(rt; "codec: the transcript cannot be written");

@@ -27,7 +27,7 @@ pub fn nil(response: bool, aborted: bool) -> SdoCommand
 }
 
 // Acts on a command that no upload bars, by its id; the ids that nobody serves are answered as Abort is.
-// (command and payload stay two: an answer holds a command of this type too, and its payload lies elsewhere)
+// (Command and payload stay two: an answer holds a command of this type too, and its payload lies elsewhere.)
 #[tactic(auto, unfolding(protocol::specs::ConnectionRecord::dispatch))]
 fn dispatch(
     c: Connection,

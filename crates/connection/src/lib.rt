@@ -8,7 +8,7 @@ ghost use Rattle.connection.specs.Among.{follows, is_gone, is_behind};
 use protocol::{Connection, SdoClientInfo, SdoServerState};
 
 // Whether a connection is closed.
-// (which variant a state is, is one matches! for each crate that asks: a function for all of them would take the variant, and be that macro)
+// (Which variant a state is, is one matches! for each crate that asks: a function for all of them would take the variant, and be that macro.)
 pub fn is_closed(s: SdoServerState) -> bool
     ensures { result ≡ is_closed s }
 {
@@ -64,7 +64,7 @@ pub fn fresh(area: u8) -> Connection
 }
 
 // A joining client's record.
-// (a fresh record, but for the two fields that say whose it is)
+// (A fresh record, but for the two fields that say whose it is.)
 pub fn joining(client: SdoClientInfo, area: u8) -> Connection
     ensures { result ≡ joining client area }
 {

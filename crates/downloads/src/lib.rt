@@ -27,7 +27,7 @@ fn end_of(t: SdoTransferState, bytes: &[u8]) -> Option<u32>
 }
 
 // A Segment write whose data is stored: the download goes on where it ends.
-// (the transfer by update: it names the numbers that change and no other)
+// (The transfer by update: it names the numbers that change and no other.)
 fn write_segment(asked: Asked, image: &[u8], clock: u64, t: SdoTransferState, end: u32) -> Action
     ensures { (share : List ℕ) → told_action result share image.now ≡ replies (with_state asked.connection (SdoServerState.SegmentedDownload (record t { offset = end; deadline = Some (deadline_after image.now clock) }))) share image.now asked.transaction [] }
 {
@@ -86,7 +86,7 @@ fn write_data(
 }
 
 // WriteByIndex.
-// (Segment and Complete go one way, with a bool: each with a function of its own would repeat the tests of write_data)
+// (Segment and Complete go one way, with a bool: each with a function of its own would repeat the tests of write_data.)
 pub fn write_by_index(
     asked: Asked,
     share: &mut [u8],

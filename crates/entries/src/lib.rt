@@ -91,7 +91,7 @@ pub fn writable(l: Result<Entry, LookupError>, n: usize) -> Result<Entry, AbortC
 }
 
 // The length of the entry at a place is set.
-// (n is the number stored, and no count of the image's entries.)
+// (`n` is the number stored, and no count of the image's entries.)
 fn set_length(image: &mut [u8], place: usize, n: u16)
     ensures { image.new ≡ splice (place + 10) (le_bytes 2 n) image.old }
 {

@@ -24,7 +24,7 @@ pub const NIL: CommandLayerHeader = CommandLayerHeader {
 };
 
 // An abort: the record is closed and its numbers are reset.
-// (the code stays a number: an enum would ask more of callers)
+// (The code stays a number: an enum would ask more of callers.)
 pub fn abort(c: Connection, transaction: u8, code: u32) -> Action
     ensures { (share image : List ℕ) → told_action result share image ≡ aborts c share image transaction code }
 {
@@ -87,8 +87,8 @@ impl Asked {
 }
 
 // A read of an entry: its value as a part of the image, or copied into the share and sent in pieces.
-// (share, image and clock stay parameters: as a struct by `&mut` its maker does not prove, by value each function takes it apart and makes it anew)
-// (index and sub stay two, as the lookup takes them and the transfer keeps them)
+// (Share, image and clock stay parameters: as a struct by `&mut` its maker does not prove, by value each function takes it apart and makes it anew.)
+// (Index and sub stay two, as the lookup takes them and the transfer keeps them.)
 #[tactic(auto, unfolding(protocol::specs::TransferRecord::read_value, protocol::specs::Constants::PIECE, picks::specs::Pick::pick))]
 fn read_entry(
     asked: Asked,

@@ -12,7 +12,7 @@ use std::io;
 pub const INPUT: usize = 262144;
 
 // How far a run is. The buffer's bytes from start to end are not played yet; the first of them is byte `at` of the input.
-// (places in one fixed buffer, since a slice of it could not be kept beside a refill; no value belongs to `going`: a run ends with bytes left over or without)
+// (Places in one fixed buffer, since a slice of it could not be kept beside a refill; no value belongs to `going`: a run ends with bytes left over or without.)
 #[derive(Clone, Copy)]
 pub struct Window {
     pub start: usize,
@@ -58,7 +58,7 @@ pub fn passed(w: Window, n: usize, known: bool) -> Window
 }
 
 // Reads once into the buffer from n on, and answers how many bytes came: none at the end of the input, or where it cannot be read.
-// (n is where the bytes that stay end, and the contract says that they stay; a slice from there on could not)
+// (`n` is where the bytes that stay end, and the contract says that they stay; a slice from there on could not.)
 fn read_at<R: io::Read>(reader: &mut R, buffer: &mut [u8], n: usize) -> usize
     requires { n ≤ length buffer.old }
     ensures in_bounds { n + result ≤ length buffer.old }
@@ -69,7 +69,7 @@ fn read_at<R: io::Read>(reader: &mut R, buffer: &mut [u8], n: usize) -> usize
 }
 
 // Moves n bytes from a place to the front of the input buffer.
-// (copy_within takes the place too: a slice of the buffer cannot be moved within it; packing::shift copies its 320 bytes, too many here)
+// (`copy_within` takes the place too: a slice of the buffer cannot be moved within it; packing::shift copies its 320 bytes, too many here.)
 fn move_to_front(input: &mut [u8], start: usize, n: usize)
     requires { n ≤ length input.old - start }
     ensures { input.new ≡ take n (drop start input.old) ++ drop n input.old }

@@ -30,7 +30,7 @@ impl TryFrom<u8> for Item {
 
     ghost try_from_gives = { λ number result. result ≡ item_of number };
 
-    // (here the format's numbers become items)
+    // (Here the format's numbers become items.)
     #[tactic(auto, unfolding(crate::specs::Kinds::item_of, crate::specs::Items::by_kind, picks::specs::Pick::pick))]
     fn try_from(number: u8) -> Result<Self, UnknownItem> {
         match number {
@@ -60,7 +60,7 @@ fn image_length(item: &[u8]) -> usize
 }
 
 // How long the item at the start of these bytes is. Where they end before the bytes that tell it, the answer is still more than they are.
-// (the format says how long each item is, and the codecs' items have other lengths)
+// (The format says how long each item is, and the codecs' items have other lengths.)
 #[tactic(auto, unfolding(crate::specs::Items::length_of, crate::specs::Items::by_kind, crate::specs::Kinds::item_of, picks::specs::Pick::pick))]
 pub fn length_of(s: &[u8]) -> usize
     ensures { result ≡ length_of s.now }

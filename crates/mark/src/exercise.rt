@@ -49,7 +49,7 @@ fn of_three(rt: &impl Env) -> Option<Exercise> {
 }
 
 // The exercise of the arguments, where they are one: without any, the shuttle map of a gearbox controller.
-// (the numbers are how many arguments there are, the program's name among them)
+// (The numbers are how many arguments there are, the program's name among them.)
 pub fn of_arguments(rt: &impl Env) -> Option<Exercise> {
     match argument_count(rt) {
         1 => Some(Exercise {

@@ -19,7 +19,7 @@ pub struct Finish {
 }
 
 // The sheet of an exercise so far: how many calls, ticks that sent nothing and deadline queries there were, the book of marks and readings, the first finishes and their number, and the one that passed.
-// (finished counts those too that are not kept, and the other counts are of nothing kept)
+// (`finished` counts those too that are not kept, and the other counts are of nothing kept.)
 #[derive(Clone, Copy)]
 pub struct Sheet {
     pub exercise: Exercise,

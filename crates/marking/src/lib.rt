@@ -17,7 +17,7 @@ pub struct Exercise {
 }
 
 // What a call says of the exercise.
-// (a frame may hold any code, and a refusal any number, so both stay numbers)
+// (A frame may hold any code, and a refusal any number, so both stay numbers.)
 #[derive(Clone, Copy)]
 pub enum Event {
     // A client's opening was answered.
@@ -36,7 +36,7 @@ pub enum Event {
 }
 
 // What denied an object: an abort's code, or a refusal's number.
-// (each as an Event has it, known or not)
+// (Each as an Event has it, known or not.)
 #[derive(Clone, Copy)]
 pub enum Denial {
     Code(u32),
@@ -44,7 +44,7 @@ pub enum Denial {
 }
 
 // What the events so far come to: the first denial, the bytes sent and all bytes of the reading that came furthest, the code that ended the last one, and the length of the first finish that has another length than the exercise.
-// (opened, asked and passed say that it was so, with no value that an Option would hold)
+// (Opened, asked and passed say that it was so, with no value that an Option would hold.)
 #[derive(Clone, Copy)]
 pub struct Marks {
     pub opened: bool,
@@ -73,7 +73,7 @@ pub struct Noted {
 }
 
 // The mark: passed, finished with another length, or the first step of the procedure that is missing.
-// (the code or the number is the denial's, known or not)
+// (The code or the number is the denial's, known or not.)
 #[derive(Clone, Copy)]
 pub enum Mark {
     Passed,
@@ -170,7 +170,7 @@ fn with_piece(m: Marks, sent: u32, total: u32) -> Marks
 }
 
 // The marks with a finish: the exercise is passed where it has the length that is asked. Of the other lengths the first counts.
-// (the exercise stays beside the marks, here and below: a book is empty before any exercise is named)
+// (The exercise stays beside the marks, here and below: a book is empty before any exercise is named.)
 #[tactic(auto, unfolding(crate::specs::Marks::with_finish, picks::specs::Pick::pick))]
 fn with_finish(m: Marks, e: Exercise, length: u32) -> Marks
     ensures { result ≡ with_finish m e length }
@@ -227,7 +227,7 @@ fn after_answered(
 }
 
 // The marks after a refused request.
-// (the number is whatever `refused` is given)
+// (The number is whatever `refused` is given.)
 fn after_refused(m: Marks, e: Exercise, asked: bool, number: u8) -> Marks
     ensures { result ≡ refused_marks m e asked number }
 {
@@ -350,7 +350,7 @@ pub fn answered(b: Book, e: Exercise, client: SdoClientInfo, request: &[u8], ans
 }
 
 // The book after a refused request.
-// (a caller may give any number, so it is no Refusal)
+// (A caller may give any number, so it is no Refusal.)
 pub fn refused(b: Book, e: Exercise, request: &[u8], number: u8) -> Book
     ensures { result ≡ refused_book b e request.now number }
 {

@@ -37,7 +37,7 @@ fn client_number(client: SdoClientInfo) -> u64
 }
 
 // A number alone.
-// (C reads the outcome as a number: beside the refusals' it has 254 and 255, which are none)
+// (C reads the outcome as a number: beside the refusals' it has 254 and 255, which are none.)
 pub fn only(outcome: u64) -> SdoAnswer
     ensures { result ≡ only outcome }
 {
@@ -56,7 +56,7 @@ pub fn refused(x: Refusal) -> SdoAnswer
 }
 
 // An answer.
-// (0 is the number by which C knows an answer)
+// (0 is the number by which C knows an answer.)
 fn answers(a: Answered) -> SdoAnswer
     ensures { result ≡ answers_to (record { client = a.client; size = a.length }) }
 {
@@ -68,7 +68,7 @@ fn answers(a: Answered) -> SdoAnswer
 }
 
 // What a request says, as numbers.
-// (three matches on three types: From would be three impls, each with one of these for its body)
+// (Three matches on three types: From would be three impls, each with one of these for its body.)
 pub fn of_request(o: Result<Answered, Refusal>) -> SdoAnswer
     ensures { result ≡ request_answer (told_outcome o) }
 {
@@ -79,7 +79,7 @@ pub fn of_request(o: Result<Answered, Refusal>) -> SdoAnswer
 }
 
 // What a tick says, as numbers.
-// (255 is the number by which C knows that nobody is answered)
+// (255 is the number by which C knows that nobody is answered.)
 pub fn of_tick(o: Result<Option<Answered>, Refusal>) -> SdoAnswer
     ensures { result ≡ tick_answer (told_ticked o) }
 {
@@ -115,7 +115,7 @@ pub fn row_of(t: &[u8; 320]) -> [Connection; 8]
 }
 
 // The table's bytes after a call on its row: refusals 1 to 7 leave them.
-// (the outcome is the number that C is told)
+// (The outcome is the number that C is told.)
 #[tactic(auto, unfolding(picks::specs::Pick::pick, crate::specs::Outcomes::table_left))]
 pub fn leave(t: &mut [u8; 320], row: [Connection; 8], outcome: u64)
     ensures { t.new ≡ table_left outcome row t.old }

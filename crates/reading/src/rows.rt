@@ -13,7 +13,7 @@ fn is_own(r: Reading, client: SdoClientInfo) -> bool
 }
 
 // The place of a client's running reading.
-// (here and below one call of the library: a function for rows of any type would take the test as a closure, which is what position does)
+// (Here and below one call of the library: a function for rows of any type would take the test as a closure, which is what position does.)
 pub fn own_place(rows: [Reading; 8], client: SdoClientInfo) -> Option<usize>
     ensures { result ≡ position (is_own client) rows }
 {
@@ -35,7 +35,7 @@ pub fn place_for(rows: [Reading; 8], own: Option<usize>) -> Option<usize>
 }
 
 // The reading at a place: without one, that of nobody.
-// (one chain of the library's calls: a function for rows of any type would have the same, and the other element as a parameter)
+// (One chain of the library's calls: a function for rows of any type would have the same, and the other element as a parameter.)
 pub fn reading_at(rows: [Reading; 8], place: Option<usize>) -> Reading
     ensures { result ≡ reading_at rows place }
 {
@@ -45,7 +45,7 @@ pub fn reading_at(rows: [Reading; 8], place: Option<usize>) -> Reading
 }
 
 // The row with another reading at a place; without one it stays.
-// (one test and one store: a function for rows of any type would have both, and its callers its type)
+// (One test and one store: a function for rows of any type would have both, and its callers its type.)
 pub fn with_reading(mut rows: [Reading; 8], place: Option<usize>, r: Reading) -> [Reading; 8]
     ensures { result ≡ with_reading rows place r }
 {

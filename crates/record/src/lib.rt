@@ -172,7 +172,7 @@ fn lay_record(out: &mut [u8], c: Connection)
 }
 
 // A record's bytes go to a place.
-// (as_chunks_mut would name the records, but its contract says nothing of what the bytes are after it.)
+// (`as_chunks_mut` would name the records, but its contract says nothing of what the bytes are after it.)
 fn put_record(out: &mut [u8], at: usize, c: Connection)
     requires { at + 40 ≤ length out.old }
     ensures { out.new ≡ splice at (record_bytes c) out.old }

@@ -61,7 +61,7 @@ fn played(rt: &(impl Input + Print + AllocGlobal)) -> io::Result<Window> {
 }
 
 // The program. What is not played in the end begins with an item that is cut short or unknown.
-// (codec ends alike: a shared end would be a public function of which no contract can say what it writes to standard error)
+// (`codec` ends alike: a shared end would be a public function of which no contract can say what it writes to standard error.)
 fn main(rt: HostRuntime) -> io::Result<()> {
     let Ok(window) = played(&rt) else {
         return eprintln!(rt; "replay: the transcript cannot be written");

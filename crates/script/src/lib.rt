@@ -30,7 +30,7 @@ const LENT_RECORDS: u8 = 9;
 const RECORDS: u8 = 8;
 
 // How much of each buffer is lent from here on, how many records, and the table.
-// (lengths of parts of the program's fixed buffers, each of which is borrowed anew by each call)
+// (Lengths of parts of the program's fixed buffers, each of which is borrowed anew by each call.)
 #[derive(Clone, Copy)]
 pub struct Lent {
     pub answer: usize,
@@ -56,7 +56,7 @@ pub struct Played {
 }
 
 // Item 6: area byte i becomes (b + 7 i + i / 256) mod 256.
-// (a byte's value follows from its place: an iterator would count the places too)
+// (A byte's value follows from its place: an iterator would count the places too.)
 #[tactic(auto, using(crate::proofs::Buffers::area_none, crate::proofs::Buffers::area_more))]
 fn fill_area(b: u8, area: &mut [u8])
     requires { 65536 ≤ length area.old }
@@ -152,8 +152,8 @@ impl Lent {
     }
 
     // A request on what is lent of the buffers. A table of another length than the server's is refused here: the server cannot be given one.
-    // (each of the three calls tests the records itself: who lends the buffers to a closure does not know what its call left in them)
-    // (area, image and answer are the caller's own buffers, which document 01 lends to a call one by one)
+    // (Each of the three calls tests the records itself: who lends the buffers to a closure does not know what its call left in them.)
+    // (Area, image and answer are the caller's own buffers, which document 01 lends to a call one by one.)
     fn call_request(
         self,
         item: &[u8],
@@ -224,7 +224,7 @@ impl Lent {
     }
 
     // Item 1: a request. A client of a kind that there is not is unknown.
-    // (is_client asks of bytes whether a client stands there, and compares no kind)
+    // (`is_client` asks of bytes whether a client stands there, and compares no kind.)
     #[tactic(auto, unfolding(crate::specs::Playing::request_played, picks::specs::Pick::pick))]
     fn play_request(
         self,

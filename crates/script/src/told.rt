@@ -13,7 +13,7 @@ pub enum Told {
 }
 
 // The transcript's code: 0 an answer, 1 to 9 a refusal, 254 a deadline, 255 nothing.
-// (here what a call says becomes the transcript's numbers)
+// (Here what a call says becomes the transcript's numbers.)
 pub fn code(told: Told) -> u8
     ensures { result ≡ code_of (said told) }
 {

@@ -15,7 +15,7 @@ use protocol::{
 };
 
 // What an empty frame does that is no fault: an upload's next piece, or a Nil.
-// (a match, since two states have answers of their own)
+// (A match, since two states have answers of their own.)
 #[tactic(auto, unfolding(protocol::specs::ConnectionRecord::empty_in))]
 fn empty_in(c: Connection, image: &[u8], clock: u64) -> Action
     ensures { (share : List ℕ) (h k : SequenceLayerHeader) → told_action result share image.now ≡ empty_in c share image.now clock h k c.state }
@@ -68,7 +68,7 @@ fn refused(connection: Connection, x: Refusal) -> Handled
 }
 
 // A frame with no command.
-// (record and header stay two: the record is the one after the step, the header the frame's)
+// (Record and header stay two: the record is the one after the step, the header the frame's.)
 #[tactic(auto, unfolding(protocol::specs::ConnectionRecord::empty_frame, picks::specs::Pick::pick))]
 fn empty_frame(
     c: Connection,
@@ -158,7 +158,7 @@ pub fn handle_request(
 }
 
 // A tick on a record that is due.
-// (a match, since two states are answered and in two ways)
+// (A match, since two states are answered and in two ways.)
 #[tactic(auto, unfolding(protocol::specs::ConnectionTable::tick_record, protocol::specs::ConnectionTable::tick_in))]
 pub fn tick(c: Connection, image: &[u8], clock: u64) -> Option<Left<SdoResponseData>>
     ensures { (share : List ℕ) → told_record_ticked result share image.now ≡ tick_record c share image.now clock }

@@ -11,7 +11,7 @@ use protocol::{
 };
 
 // Before the sequence step: receive mark 3 in an upload with a stored piece resends it, under send mark 3.
-// (record and header stay two: each step leaves another record, and the frame's header stays as it is)
+// (Record and header stay two: each step leaves another record, and the frame's header stays as it is.)
 #[tactic(auto, unfolding(protocol::specs::ConnectionRecord::before_step, protocol::specs::ConnectionRecord::before_in, picks::specs::Pick::pick))]
 pub fn before_step(c: Connection, h: SequenceLayerHeader) -> Option<SdoResponseData>
     ensures { (share image : List ℕ) → told_resend result share image ≡ before_step c share h }
@@ -77,7 +77,7 @@ fn misfit(connection: Connection) -> Left<Result<SequenceLayerHeader, Misfit>>
 }
 
 // A Closed client's frame.
-// (both headers are written out: they have one field in common, and at most one with `answer_marked`)
+// (Both headers are written out: they have one field in common, and at most one with `answer_marked`.)
 #[tactic(auto, unfolding(protocol::specs::ConnectionRecord::closed_step, picks::specs::Pick::pick))]
 fn closed_step(c: Connection, h: SequenceLayerHeader) -> Left<Result<SequenceLayerHeader, Misfit>>
     ensures { told_step result ≡ closed_step c h }
@@ -121,7 +121,7 @@ fn ends_handshake(c: Connection, h: SequenceLayerHeader) -> bool
 }
 
 // An upload whose piece is acknowledged has no deadline and no stored piece.
-// (by update: it names the numbers that change and no other)
+// (By update: it names the numbers that change and no other.)
 fn acknowledged(t: SdoTransferState) -> SdoTransferState
     ensures { result ≡ acknowledged t }
 {
@@ -134,7 +134,7 @@ fn acknowledged(t: SdoTransferState) -> SdoTransferState
 }
 
 // The state after a frame with the next number, whose receive number is ours or not.
-// (a match with a guard: two tests, one of them with a value, and one answer where either fails)
+// (A match with a guard: two tests, one of them with a value, and one answer where either fails.)
 #[tactic(auto, unfolding(protocol::specs::ConnectionRecord::acknowledge, picks::specs::Pick::pick))]
 fn acknowledge(ours: bool, s: SdoServerState) -> SdoServerState
     ensures { result ≡ acknowledge ours s }

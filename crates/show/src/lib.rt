@@ -47,7 +47,7 @@ impl fmt::Display for Start<'_> {
 }
 
 // Where a mark first stands in a text: its length where it does not.
-// (both callers ask for the length there: all of the text stands before, and nothing behind)
+// (Both callers ask for the length there: all of the text stands before, and nothing behind.)
 fn find(text: &[u8], mark: u8) -> usize
     ensures value { result ≡ first (λ x. eqb x mark) text.now }
     ensures upper_bound { result ≤ length text.now }
@@ -72,7 +72,7 @@ pub fn behind(text: &[u8], mark: u8) -> &[u8]
 }
 
 // The line of a text with this number, from 0.
-// (the range counts the lines passed, and has no index)
+// (The range counts the lines passed, and has no index.)
 #[tactic(auto, unfolding(crate::specs::Text::line_of), using(crate::proofs::Texts::line_more))]
 pub fn line(text: &[u8], n: u8) -> &[u8]
     ensures { result.now ≡ line_of n text.now }

@@ -54,7 +54,7 @@ fn is_sound(e: Entry, least: u32, start: u32) -> bool
 // Whether the first n entries of an image are sound, one behind the other, up to its end.
 // (Inlined into a tick, or with the early return in place of `sound`, the loop takes one to three instructions more an entry.)
 // (The loop counts, since the number is the entry's place, which `Entry` keeps.)
-// (n is read of the image once, by the caller, who tests that there is room for so many.)
+// (`n` is read of the image once, by the caller, who tests that there is room for so many.)
 #[inline(never)]
 fn sound_entries(image: &[u8], n: usize) -> bool
     requires { (2 + 12 * n ≤ length image.now) × (length image.now ≤ 65536) }

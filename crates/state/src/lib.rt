@@ -31,7 +31,7 @@ pub fn with_state(c: Connection, s: SdoServerState) -> Connection
 }
 
 // The length of the piece at an offset.
-// (one line of the library's: what it is the lesser of is all that it says)
+// (One line of the library's: what it is the lesser of is all that it says.)
 #[tactic(auto, unfolding(protocol::specs::Constants::PIECE))]
 pub fn piece_length(total: u32, offset: u32) -> u32
     ensures { result ≡ piece_length PIECE total offset }
@@ -62,7 +62,7 @@ pub fn piece_kind(total: u32, offset: u32) -> Segmentation
 }
 
 // The piece at an offset of a transfer's bytes, which stay where they are. The first one tells the total.
-// (its header is written out: it has at most the two flags in common with another answer's)
+// (Its header is written out: it has at most the two flags in common with another answer's.)
 #[tactic(auto, unfolding(protocol::specs::Constants::PIECE, protocol::specs::TransferRecord::piece, picks::specs::Pick::pick))]
 pub fn piece_at(transaction: u8, total: u32, offset: u32) -> Piece
     ensures { (share image : List ℕ) → with_payload result.command (body_bytes share image result.body) ≡ piece PIECE transaction total offset share }
@@ -119,7 +119,7 @@ fn is_last(t: SdoTransferState) -> bool
 }
 
 // The transfer after its next piece, which is not the last.
-// (an update, as wherever a transfer changes: it names the numbers that change and no other)
+// (An update, as wherever a transfer changes: it names the numbers that change and no other.)
 #[tactic(auto, unfolding(protocol::specs::TransferRecord::deadline_after, protocol::specs::Constants::PIECE))]
 fn after_piece(t: SdoTransferState, image: &[u8], clock: u64) -> SdoTransferState
     ensures { result ≡ after_piece t image.now clock }
@@ -135,7 +135,7 @@ fn after_piece(t: SdoTransferState, image: &[u8], clock: u64) -> SdoTransferStat
 }
 
 // The next piece of an upload is sent.
-// (the transfer is handed on beside its record, whose state was tested once: from the record alone it would be tested again)
+// (The transfer is handed on beside its record, whose state was tested once: from the record alone it would be tested again.)
 #[tactic(auto, unfolding(protocol::specs::TransferRecord::advance, picks::specs::Pick::pick))]
 pub fn advance(c: Connection, image: &[u8], clock: u64, t: SdoTransferState) -> Action
     ensures { (share : List ℕ) → told_action result share image.now ≡ advance c share image.now clock t }

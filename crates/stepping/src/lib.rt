@@ -7,7 +7,7 @@ ghost use Rattle.protocol.specs.ConnectionRecord.{step_of, told_step, sequence_s
 use protocol::{Connection, Left, Misfit, SequenceLayerHeader, Step};
 
 // The sequence step on a single lent record, which is written back: the answer's header so far, or that the frame does not fit.
-// (record and header stay two: one is lent and changed, the other only read)
+// (Record and header stay two: one is lent and changed, the other only read.)
 pub fn step_record(
     c: &mut Connection,
     h: SequenceLayerHeader,

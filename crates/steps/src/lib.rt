@@ -348,7 +348,7 @@ fn other(request: Frame, answer: Frame) -> &'static str
 }
 
 // An abort as an answer: without a code it confirms the client's own.
-// (a frame may hold any number as its code, so it stays a number)
+// (A frame may hold any number as its code, so it stays a number.)
 #[derive(Clone, Copy)]
 struct Aborted {
     frame: Frame,

@@ -155,7 +155,7 @@ fn put_whole(page: &mut [u8], at: usize, r: Reading) -> usize
 }
 
 // An abort as an answer: without a code it confirms the client's own.
-// (a frame may hold any number as its code, so it stays a number)
+// (A frame may hold any number as its code, so it stays a number.)
 #[tactic(auto, unfolding(show::specs::Text::letters, picks::specs::Pick::pick, crate::specs::Steps::aborted_text), using(show::proofs::Laid::laid_laid))]
 fn put_aborted(page: &mut [u8], at: usize, a: Frame, code: u32) -> usize
     ensures { page_at result page.new ≡ laid (page_at at page.old) (aborted_text a code) }

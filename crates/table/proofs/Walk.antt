@@ -27,12 +27,6 @@ none_left f xs = rw (first_there f xs) (go (length (keep f xs)))
     go zero = refl
     go (suc n) = ne_eqb (suc n) 0 (λ e. absurd (omega arith)) ∙ sym (ap not (lt-ltb 0 (suc n) (omega arith)))
 
--- what iterators make of a row, as the definitions have it
-pub fold_same : {S A : Type 0} (f : S → A → S) (s : S) (xs : List A) → L.fold f s xs ≡ fold f s xs
-unfolding fold
-fold_same f s [] = refl
-fold_same f s (x ∷ xs) = fold_same f (f s x) xs
-
 -- whether a search told a place, by the number that the place is
 pub told_inside : (r : Option ℕ) (n : ℕ) → place_in r ≡ n → IfSome r (λ i. i < 8) → is_some r ≡ ltb n 8
 told_inside None n e h = rw (← e)

@@ -3,7 +3,7 @@
 
 ghost use Rattle.std.specs.Prelude.{◌≡◌, true, false, not, ◌&&◌, length, get_or, set, ◌<◌, eqb, IfSome};
 ghost use Rattle.picks.specs.Pick.{pick, first, every};
-ghost use Rattle.protocol.specs.ConnectionTable.{unused_of, fresh, holds, place_of, record_of, update, is_known, join, release, sound_record, chosen, earliest, ordered, areas_once, sound_table};
+ghost use Rattle.protocol.specs.ConnectionTable.{unused_of, fresh, holds, place_of, is_known, join, release, sound_record, chosen, earliest, ordered, areas_once, sound_table};
 ghost use Rattle.connection.specs.Among.{is_gone};
 ghost use Rattle.row.specs.Row.{place_in};
 ghost use Rattle.table.specs.Row.{unused_place, joined_row, dropped_at, drops_first};
@@ -11,7 +11,7 @@ ghost use Rattle.table.specs.Row.{unused_place, joined_row, dropped_at, drops_fi
 use protocol::{Connection, SdoClientInfo};
 
 // The place of the client's record.
-// (each search here is one position with a test of its own; that the place is one of the eight is a clause, since no type says so of an index)
+// (Each search here is one position with a test of its own; that the place is one of the eight is a clause, since no type says so of an index.)
 pub fn place_of(t: [Connection; 8], client: SdoClientInfo) -> Option<usize>
     ensures place { place_in result ≡ place_of client t }
     ensures inside { IfSome result (λ i. i < 8) }
@@ -50,7 +50,7 @@ pub fn is_full(t: [Connection; 8], client: SdoClientInfo) -> bool
 }
 
 // Used records come first, clients strictly ascending, and unused ones are fresh.
-// (packed calls is_sorted_by with the tests that it has of bytes: what the two share is that call)
+// (`packed` calls is_sorted_by with the tests that it has of bytes: what the two share is that call.)
 fn is_ordered(t: [Connection; 8]) -> bool
     ensures { result ≡ ordered t }
 {
@@ -75,7 +75,7 @@ fn areas_once(t: [Connection; 8]) -> bool
 }
 
 // Whether every record is sound.
-// (packed stops at the first unused record, which in an ordered table is fresh; here a row may be in any order)
+// (`packed` stops at the first unused record, which in an ordered table is fresh; here a row may be in any order.)
 fn records_sound(t: [Connection; 8]) -> bool
     ensures { result ≡ every sound_record t }
 {
@@ -122,7 +122,7 @@ pub fn record_at(t: [Connection; 8], i: usize) -> Connection
 }
 
 // The row with another record at a place; past the end it stays.
-// (a slice's get_mut says nothing of what is written through it, so with it the proof does not close)
+// (A slice's get_mut says nothing of what is written through it, so with it the proof does not close.)
 pub fn replaced(mut t: [Connection; 8], i: usize, c: Connection) -> [Connection; 8]
     ensures { result ≡ set t i c }
 {

@@ -36,7 +36,7 @@ pub fn times_out(c: Connection, t: SdoTransferState) -> Left<SdoResponseData>
 }
 
 // An upload with one retry less and a new deadline.
-// (by update: it names the numbers that change and no other)
+// (By update: it names the numbers that change and no other.)
 fn retried(t: SdoTransferState, image: &[u8], clock: u64) -> SdoTransferState
     requires { 1 ≤ t.retries }
     ensures { result ≡ retried t image.now clock }

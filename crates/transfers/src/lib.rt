@@ -46,7 +46,7 @@ pub fn sound_download(t: SdoTransferState) -> bool
 }
 
 // Whether the transfer of a state is sound.
-// (packed asks a record's bytes, and has a transfer made of them only where their state has one)
+// (`packed` asks a record's bytes, and has a transfer made of them only where their state has one.)
 fn sound_state(s: SdoServerState) -> bool
     ensures { result ≡ sound_state s }
 {
@@ -66,7 +66,7 @@ pub fn sound_record(c: Connection) -> bool
 }
 
 // When the transfer of a state is due.
-// (packed reads a deadline's bytes alone, with no transfer made)
+// (`packed` reads a deadline's bytes alone, with no transfer made.)
 fn transfer_deadline(s: SdoServerState) -> Option<u64>
     ensures { result ≡ transfer_deadline s }
 {
@@ -91,7 +91,7 @@ pub fn is_due(c: Connection, clock: u64) -> bool
 }
 
 // The earlier of two deadlines.
-// (None is the latest here, and the least by Option's own order)
+// (None is the latest here, and the least by Option's own order.)
 #[tactic(auto, unfolding(picks::specs::Pick::pick))]
 pub fn earlier(a: Option<u64>, b: Option<u64>) -> Option<u64>
     ensures { result ≡ earlier a b }

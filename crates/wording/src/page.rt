@@ -71,7 +71,7 @@ pub fn put_object(page: &mut [u8], at: usize, index: u16, sub: u8) -> usize
 }
 
 // A number in eight hex digits.
-// (a frame may hold any number here and in put_abort, so it stays a number)
+// (A frame may hold any number here and in put_abort, so it stays a number.)
 #[tactic(auto, unfolding(show::specs::Text::letters, template::specs::Filled::filled, template::specs::Filled::letter_text, template::specs::Filled::taken, picks::specs::Pick::pick))]
 pub fn put_code(page: &mut [u8], at: usize, code: u32) -> usize
     ensures { page_at result page.new ≡ laid (page_at at page.old) (code_text code) }
@@ -90,7 +90,7 @@ pub fn put_abort(page: &mut [u8], at: usize, code: u32) -> usize
 }
 
 // A refusal's number and its meaning.
-// (a recording may hold any number here, so it stays a number)
+// (A recording may hold any number here, so it stays a number.)
 #[tactic(auto, unfolding(show::specs::Text::letters, template::specs::Filled::filled, template::specs::Filled::letter_text, template::specs::Filled::taken, picks::specs::Pick::pick, crate::specs::Words::refusal_text), using(show::proofs::Laid::laid_laid))]
 pub fn put_refusal(page: &mut [u8], at: usize, number: u8) -> usize
     ensures { page_at result page.new ≡ laid (page_at at page.old) (refusal_text number) }

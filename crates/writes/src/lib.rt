@@ -9,7 +9,7 @@ use handlers::Asked;
 use protocol::{AbortCode, Action, Connection, SHARE, SdoServerState, SdoTransferState};
 
 // A write of an object's value with its checks; `next` is the record after it.
-// (index and sub stay two, as the lookup takes them)
+// (Index and sub stay two, as the lookup takes them.)
 #[tactic(auto, unfolding(protocol::specs::TransferRecord::write_object, protocol::specs::TransferRecord::write_entry))]
 pub fn write_object(
     asked: Asked,
