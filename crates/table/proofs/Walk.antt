@@ -8,8 +8,7 @@ use lib.ListN.{length, get_or}
 use lib.Dec.{ltb, eqb}
 use borrow.Author.Tests.{lt-ltb, ne_eqb}
 use Rattle.std.specs.Prelude.{Option, Some, None, IfSome, is_some}
-use Rattle.std.specs.List as L
-use Rattle.picks.specs.Pick.{keep, first, fold}
+use Rattle.picks.specs.Pick.{keep, first}
 use Rattle.picks.proofs.Keep.{first_there}
 use Rattle.row.specs.Row.{place_in}
 
