@@ -1,1 +1,2 @@
 pub mod OtherLength
+pub mod Search

@@ -1,20 +1,18 @@
--- A table of another length is refused, and all is left; else the tick is that of its records.
-use Rattle.std.proofs.Common.{ne_eqb, ◌≡◌, ◌∙◌, ap, rules}
+-- A table of another length is refused, and all is left; else the tick looks at the record that the search found.
+use Rattle.std.proofs.Common.{ne_eqb, ◌≡◌, ◌∙◌, rules}
 use Rattle.protocol.specs.Coding.{refused}
-use Rattle.protocol.specs.Tick.{told_ticked, tick_of}
+use Rattle.protocol.specs.Tick.{told_ticked}
 use Rattle.lent.proofs.OtherLength.{tick_refused}
+use Rattle.lent.proofs.Search.{tick_at_found}
 use Rattle.lent.proofs.tick.Goals as goal
 
 pub returns-in_err-row : goal.returns-in_err-row
 returns-in_err-row c =
-    let none = c.in_err-row.ensures.ok_part in
-    let e = rw none at c.as_mut_array.ensures.cases in
-    let v = rw none at c.in_err-row.ensures.value in
+    let e = c.in_err-row.ensures.refused in
     let t : told_ticked c.from_residual.result ≡ refused 1 = let r = c.from_residual.ensures in search rules in
-    rw t (tick_refused _ _ _ _ _ (ne_eqb _ _ e))
+    rw t (tick_refused _ _ _ _ _ (ne_eqb _ _ e.0))
 
 pub returns : goal.returns
 returns c =
-    let a = c.args in
-    let row = rw c.in_ok-row.ensures.ok_part at c.as_mut_array.ensures.cases in
-    c.tick-called.ensures ∙ ap (λ t. tick_of a.clock a.image.now a.answer.now t a.area.now) row.same
+    let l = c.in_ok-row.ensures.long in
+    rw c.copy_from_slice.ensures.after (c.tick_at-called.ensures ∙ (rw (c.in_ok-row.ensures.loaded, c.due_place-due.ensures) (tick_at_found _ _ _ _ _ l)))
