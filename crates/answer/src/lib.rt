@@ -26,6 +26,7 @@ fn number_bytes(body: Body) -> [u8; 4]
 }
 
 // A body's payload: a part of the image or of the share, or its numbers' bytes.
+// (Share and image stay two: why stands beside `handlers::read_entry`.)
 #[tactic(auto, unfolding(picks::specs::Pick::pick))]
 fn payload<'a>(share: &'a [u8], image: &'a [u8], body: Body, numbers: &'a [u8; 4]) -> &'a [u8]
     requires { is_part body ≡ false → numbers.now ≡ body_bytes share.now image.now body }

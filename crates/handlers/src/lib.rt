@@ -25,6 +25,7 @@ pub const NIL: CommandLayerHeader = CommandLayerHeader {
 
 // An abort: the record is closed and its numbers are reset.
 // (The code stays a number: an enum would ask more of callers.)
+// (Its header is by update, as those of other answers: each names what differs.)
 pub fn abort(c: Connection, transaction: u8, code: u32) -> Action
     ensures { (share image : List ℕ) → told_action result share image ≡ aborts c share image transaction code }
 {

@@ -76,6 +76,7 @@ pub fn tidy(t: &mut [u8; 320])
 }
 
 // Another record at a place; past the end the records stay.
+// (Here and below the bytes and the record are a receiver and its argument.)
 pub fn replace(t: &mut [u8; 320], i: usize, c: Connection)
     ensures { t.new ≡ table_bytes (set (table_of t.old) i c) }
 {

@@ -105,6 +105,7 @@ pub fn is_read(f: Frame) -> bool
 }
 
 // What piece an upload's answer is.
+// (Header and command stay two: a frame may have the one without the other.)
 #[tactic(auto, unfolding(crate::specs::Reading::upload_piece, picks::specs::Pick::pick))]
 fn upload_piece(h: SequenceLayerHeader, c: SdoCommand) -> Piece
     ensures { result ≡ upload_piece h c }
@@ -168,6 +169,7 @@ pub fn no_reading() -> Reading
 }
 
 // A reading of the object that a read's payload names, of which nothing is sent yet.
+// (By update of a reading with nothing, which is all that the two share.)
 fn reading_of(client: SdoClientInfo, payload: &[u8]) -> Reading
     ensures { result ≡ named client payload.now }
 {

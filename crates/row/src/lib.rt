@@ -32,6 +32,7 @@ pub fn seat_place(t: [Connection; 8], client: SdoClientInfo) -> Option<usize>
 
 // The row with a record put at a place and those from there up to place n moved up by one; the one at place n is lost. Where there is no such place the row stays.
 // (A test that the places are inside, and no number for none.)
+// (Two places, since the records between them move; `packing::insert` moves bytes, where no row is made of them.)
 pub fn inserted(mut t: [Connection; 8], at: usize, n: usize, c: Connection) -> [Connection; 8]
     ensures { result ≡ pick (leb at n && ltb n 8) (put_in at n c t) t }
 {

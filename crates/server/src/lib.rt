@@ -158,6 +158,7 @@ fn admitted<T: Table>(
 }
 
 // A request on a table in any form; `known` says whether its client is of a kind. Refusals 1 to 7 leave the table as it was.
+// (The tests of what is lent are one call of `refusals`; that call is what this, `tick_at` and the tick of `export` share.)
 pub fn request_on<T: Table>(
     t: &mut T,
     known: bool,

@@ -86,6 +86,7 @@ impl fmt::Display for Written<'_> {
 }
 
 // The words of a write, by its segmentation.
+// (As three in `wording`: each case has words of its own, and they share no line but the match.)
 #[tactic(auto, unfolding(show::specs::Text::letters, show::specs::Text::entry))]
 fn words_of(segmentation: Segmentation) -> &'static str
     ensures { result.now ≡ entry (segmentation_number segmentation) writes }

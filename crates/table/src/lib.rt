@@ -12,6 +12,7 @@ use protocol::{Connection, SdoClientInfo};
 
 // The place of the client's record.
 // (Each search here is one position with a test of its own; that the place is one of the eight is a clause, since no type says so of an index.)
+// (Here and below the row and the client are a receiver and its argument.)
 pub fn place_of(t: [Connection; 8], client: SdoClientInfo) -> Option<usize>
     ensures place { place_in result ≡ place_of client t }
     ensures inside { IfSome result (λ i. i < 8) }

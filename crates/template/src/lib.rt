@@ -1,5 +1,6 @@
 // Words with numbers in them, laid on a page: a template has a mark for each number.
 // (Its callers lay words on any page, beside the impls of Display that print the same: they cannot fail, while a Formatter may.)
+// (Each has the page and the place as parameters, as its callers have them.)
 #![tactic(auto)]
 
 ghost use Rattle.std.specs.Prelude.{◌<◌, ◌≤◌, ◌≡◌, drop};
@@ -31,6 +32,7 @@ fn put_digits(page: &mut [u8], at: usize, n: u64, base: u64, k: u8) -> usize
 }
 
 // The mark that a letter of a template is, if it is one.
+// (Here a letter becomes a mark.)
 #[tactic(auto, unfolding(crate::specs::Filled::mark_of, picks::specs::Pick::pick))]
 fn mark_of(letter: u8) -> Option<Mark>
     ensures { result ≡ mark_of letter }
