@@ -1,9 +1,9 @@
-// One connection record, by value: its client among others, and how it is made.
+// One connection record, by value: what it says of itself, and how it is made.
 #![tactic(auto)]
 
 ghost use Rattle.std.specs.Prelude.{◌≡◌};
-ghost use Rattle.protocol.specs.ConnectionTable.{is_closed, is_fresh, fresh, joining, holds};
-ghost use Rattle.connection.specs.Among.{follows, is_gone, is_behind};
+ghost use Rattle.protocol.specs.ConnectionTable.{is_closed, is_fresh, fresh, joining};
+ghost use Rattle.connection.specs.Among.{is_gone};
 
 use protocol::{Connection, SdoClientInfo, SdoServerState};
 
@@ -15,38 +15,12 @@ pub fn is_closed(s: SdoServerState) -> bool
     matches!(s, SdoServerState::Closed)
 }
 
-// Whether a record is a used one of the client's.
-// (`packed` asks this and the two below of 40 bytes: used is a byte there, a fresh client eight that are 0, and only the contracts are the same.)
-pub fn is_held(c: Connection, client: SdoClientInfo) -> bool
-    ensures { result ≡ holds client c }
-{
-    c.used & (c.client == client)
-}
-
 // Whether a record is unused and fresh, but for its area number.
 pub fn is_fresh(c: Connection) -> bool
     ensures { result ≡ is_fresh c }
 {
     let zeros = SdoClientInfo::Asnd { node: 0, mac: 0 };
     !c.used & (c.client == zeros) & (c.send == 0) & (c.receive == 63) & is_closed(c.state)
-}
-
-// Whether a record may stand next behind another: used ones first and by client, and unused ones fresh.
-#[tactic(auto, unfolding(picks::specs::Pick::pick))]
-pub fn follows(x: Connection, y: Connection) -> bool
-    ensures { result ≡ follows x y }
-{
-    if x.used {
-        return !y.used | (x.client < y.client);
-    }
-    is_fresh(x) & !y.used
-}
-
-// Whether a client's record belongs before this one: it is unused, or its client does not stand before that client.
-pub fn is_behind(c: Connection, client: SdoClientInfo) -> bool
-    ensures { result ≡ is_behind client c }
-{
-    !(c.used & (c.client < client))
 }
 
 // An unused record.

@@ -109,7 +109,7 @@ pub fn sdo_tick<'a>(
 
 // The earliest deadline on the table's bytes.
 // (`server` asks the same of a row: here no row is made of the bytes.)
-#[tactic(auto, unfolding(crate::specs::Exported::query_bytes, picks::specs::Pick::pick), using(crate::proofs::Through::query_sound_bytes, crate::proofs::Through::query_unsound_bytes))]
+#[tactic(auto, unfolding(crate::specs::Exported::query_bytes, picks::specs::Pick::pick, format::specs::Format::table_of), using(crate::proofs::Through::query_sound_bytes, crate::proofs::Through::query_unsound_bytes))]
 fn next_action_time(table: &[u8]) -> Result<Option<u64>, Refusal>
     ensures { query_answer (told_next_action result) ≡ query_bytes table.now }
 {
@@ -119,7 +119,7 @@ fn next_action_time(table: &[u8]) -> Result<Option<u64>, Refusal>
     if !packed::is_sound(t) {
         return Err(Refusal::Table);
     }
-    Ok(packed::next_deadline(t))
+    Ok(records::earliest(record::rows(t)))
 }
 
 // The earliest deadline.

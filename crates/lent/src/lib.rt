@@ -37,7 +37,7 @@ pub fn handle_request(
 }
 
 // A tick of the clock.
-// (The row goes by value and is stored again: a tick drops records of a row by value.)
+// (Document 01 names the scan of a lent row, so the due record is looked for here, and `server::tick`, which looks for it by value, is not called. The row goes by value and is stored again: a tick drops records of a row by value.)
 pub fn tick<'t, 'a, 'b>(
     table: &'t mut [Connection],
     area: &'a [u8],
@@ -55,12 +55,12 @@ pub fn tick<'t, 'a, 'b>(
 }
 
 // The earliest deadline of a lent table of eight.
-// (`server` asks the same of a row by value; here the lent records are scanned where they are.)
+// (Document 01 names the scan of a lent row, so this is no call of `server::next_action_time`, which scans one by value.)
 pub fn next_action_time(table: &[Connection]) -> Result<Option<u64>, Refusal>
     ensures { told_next_action result ≡ query_of table.now }
 {
-    if table::is_sound(*row_of(table)?) {
-        return Ok(row::earliest(table));
+    if records::is_sound(row_of(table)?) {
+        return Ok(records::earliest(table));
     }
     Err(Refusal::Table)
 }

@@ -133,8 +133,9 @@ pub fn copy_at(dst: &mut [u8], at: usize, src: &[u8])
     dst[start..start + n].copy_from_slice(&src[..n]);
 }
 
-// A byte is stored at a place.
-pub fn store_u8(dst: &mut [u8], at: usize, v: u8)
+// A value is stored at a place, in a slice of any plain type.
+// (A test of one place is plainer than an array of one byte, which `store` would make. A slice's get_mut says nothing of what is written through it, so with it the proof does not close.)
+pub fn store_at<T: Copy>(dst: &mut [T], at: usize, v: T)
     ensures { dst.new ≡ set dst.old at v }
 {
     if at < dst.len() {

@@ -115,7 +115,7 @@ pub fn row_of(t: &[u8; 320]) -> [Connection; 8]
 }
 
 // The table's bytes after a call on its row: refusals 1 to 7 leave them.
-// (The outcome is the number that C is told.)
+// (A caller may give any outcome: a Result here would be a narrower parameter.)
 #[tactic(auto, unfolding(picks::specs::Pick::pick, crate::specs::Outcomes::table_left))]
 pub fn leave(t: &mut [u8; 320], row: [Connection; 8], outcome: u64)
     ensures { t.new ≡ table_left outcome row t.old }

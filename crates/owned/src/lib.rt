@@ -11,6 +11,7 @@ use protocol::{Answered, Called, Connection, Refusal, SdoClientInfo};
 // A request from a client.
 // (Area, image and answer as one struct, and client, clock and request as another, prove too, but each caller makes them for this call alone, and the clause has no name for the answer that is left in a struct.)
 // (This and the tick share that the row is returned beside what the call says: each lends it to a call of its own.)
+// (`server` promises the same of each of the three: here the row goes by way of `lent`, which is what programs call.)
 pub fn handle_request(
     mut t: [Connection; 8],
     area: &mut [u8],

@@ -12,6 +12,7 @@ ghost use Rattle.packing.specs.Plain.{SameClient, NoTransfer, SameTransfer, Same
 use protocol::Connection;
 
 // Whether the client of a record has nothing but 0 where nobody looks.
+// (Kind and state are compared with their numbers, here and below: any byte may stand there, and what is asked is whether it is one that is written.)
 fn plain_client(r: &[u8; 40]) -> bool
     ensures { result ≡ true → SameClient r.now }
 {
@@ -84,7 +85,7 @@ pub fn replace(t: &mut [u8; 320], i: usize, c: Connection)
     record::store_record(t, i, c);
 }
 
-// So many bytes of a table go from one place to another, as they were before. (copy_within goes byte by byte, and is slower than this copy.)
+// So many bytes of a table go from one place to another, as they were before. (`copy_within` asks that both parts lie inside, and moves one byte at a time.)
 fn shift(t: &mut [u8; 320], from: usize, len: usize, to: usize)
     ensures { t.new ≡ splice to (take len (drop from t.old)) t.old }
 {

@@ -74,13 +74,12 @@ pub fn record_of(s: &[u8; 40]) -> Connection
     }
 }
 
-// The eight records' bytes in a table's.
-pub fn rows(t: &[u8; 320]) -> &[[u8; 40]]
-    ensures value { result.now ≡ rows 8 0 t.now }
-    ensures len { length result.now ≡ 8 }
+// The eight records in a table's bytes, 40 bytes each.
+pub fn rows(t: &[u8; 320]) -> &[[u8; 40]; 8]
+    ensures { result.now ≡ rows 8 0 t.now }
 {
     let (rows, _) = t.as_chunks();
-    rows
+    rows.as_array().unwrap()
 }
 
 // The table in these bytes.
@@ -93,6 +92,7 @@ pub fn table_of(s: &[u8]) -> [Connection; 8]
 }
 
 // Whether a record's kind, flags and state are in their limits. Without a transfer its bytes are not looked at.
+// (Any byte may stand there, so each is compared with a number.)
 fn is_record(s: &[u8; 40]) -> bool
     ensures { result ≡ is_record s.now }
 {
@@ -168,7 +168,7 @@ fn lay_record(out: &mut [u8], c: Connection)
     octets::copy_at(out, 1, &clients::client_bytes(client));
     octets::copy_at(out, 9, &[c.area, c.send, c.receive, state_number(state)]);
     octets::copy_at(out, 13, &state_bytes(state));
-    octets::store_u8(out, 39, 0);
+    octets::store_at(out, 39, 0);
 }
 
 // A record's bytes go to a place.

@@ -49,8 +49,8 @@ told_in f xs r l e = rw (e, l) (told (first f xs) (rw (← l) (first_le f xs)))
     told : (i : ℕ) → i ≤ 8 → (place_in (due_in i 8) ≡ i) × IfSome (due_in i 8) (λ k. k < 8)
     told i h = by_test (ltb i 8) (λ t. rw t (refl, ltb-true i 8 t)) (λ t. rw t (omega (arith, ltb-false i 8 t, h), tt))
 
-pub place_first : {A : Type 0} (f : A → Bool) (xs : List A) (r : Option ℕ) → length xs ≡ 8 → r ≡ position f xs → place_in r ≡ first f xs
-place_first f xs r l e = (told_in f xs r l (found_in f xs r e)).0
+pub told_at : {A : Type 0} (f : A → Bool) (xs : List A) (r : Option ℕ) → length xs ≡ 8 → r ≡ position f xs → (place_in r ≡ first f xs) × IfSome r (λ i. i < 8)
+told_at f xs r l e = told_in f xs r l (found_in f xs r e)
 
 -- what `position` finds by a closure that is the test
 module _ {S F : Type 0} {steps : S → Option (Bor Connection) → S → Type 0} {g : Mut F (Bor Connection × Unit {0}) Bool} {p : F} {s : S} (f : Connection → Bool) (t : List Connection) (u : S) (r : Option ℕ) (ran : (xs : List (Bor Connection)) × (o : Option (Bor Connection)) × (j : F) × YieldsThen steps s xs o u × FoldsTo (λ p x q. Called g p (x, tt) false q) p xs j × MatchOption o (r ≡ None) (λ x. (r ≡ Some (length xs)) × ((h : F) × Called g j (x, tt) true h))) (rows : YieldsList steps (λ y. y.now) s t) (so : (x : Bor Connection) (b : Bool) (q : F) → Called g p (x, tt) b q → (q ≡ p) × (b ≡ f x.now)) where

@@ -18,11 +18,12 @@ ghost use Rattle.server.specs.Tables.{left_in, made_of, kept_or_made};
 ghost use Rattle.server.specs.Left.{holds_share, served_on, told_to, ticked_call, tick_at_of};
 ghost use Rattle.protocol.specs.DeadlineQuery.{told_next_action, query_of};
 
+use forms::Table;
 use protocol::{
     Answered, BufferTooShort, Called, Connection, Handled, Left, Refusal, SdoClientInfo,
     SdoResponseData,
 };
-use seats::{Seat, Table};
+use seats::Seat;
 
 // The bytes of a record's own part of the area.
 // (Document 01 finds the part by the record's area number, so its place is counted here.)
@@ -159,6 +160,7 @@ fn admitted<T: Table>(
 
 // A request on a table in any form; `known` says whether its client is of a kind. Refusals 1 to 7 leave the table as it was.
 // (The tests of what is lent are one call of `refusals`; that call is what this, `tick_at` and the tick of `export` share.)
+// (`known` stands beside the client, and is no Option of it: an unknown one is refused amid the other tests, and behind them an Option would be matched again, with a case that nothing reaches.)
 pub fn request_on<T: Table>(
     t: &mut T,
     known: bool,
@@ -213,6 +215,7 @@ fn ticked_to(
 }
 
 // A tick that answers: the answer's bytes, and the row without its Closed records.
+// (The place is one of the row, whose record is answered.)
 #[tactic(auto, unfolding(picks::specs::Pick::pick))]
 fn tick_answered<'a>(
     t: [Connection; 8],
@@ -247,7 +250,7 @@ fn ticked<'a>(
     ensures { told_ticked_row result answer.new area.now image.now ≡ tick_at clock image.now answer.old t area.now (place_in place) }
 {
     if let Some(i) = place {
-        let c = table::record_at(t, i);
+        let c = records::record_at(&t, i);
         if let Some(next) = sequence_handler::tick(c, image, clock) {
             return tick_answered(t, i, c, next, area, image, answer);
         }
@@ -271,7 +274,7 @@ pub fn tick_at<'a>(
 ) -> Called<Option<Answered>>
     ensures { told_ticked_row result answer.new area.now image.now ≡ tick_at_of (place_in place) clock image.now answer.old t area.now }
 {
-    match refusals::check_lent(table::is_sound(t), area, image, answer, clock) {
+    match refusals::check_lent(records::is_sound(&t), area, image, answer, clock) {
         Ok(()) => ticked(t, place, area, image, answer, clock),
         Err(x) => refused(x, t),
     }
@@ -296,8 +299,8 @@ pub fn tick<'a>(
 pub fn next_action_time(t: [Connection; 8]) -> Result<Option<u64>, Refusal>
     ensures { told_next_action result ≡ query_of t }
 {
-    if table::is_sound(t) {
-        return Ok(table::next_deadline(t));
+    if records::is_sound(&t) {
+        return Ok(records::earliest(&t));
     }
     Err(Refusal::Table)
 }

@@ -3,5 +3,4 @@ pub mod Order
 pub mod Moves
 pub mod Join
 pub mod Release
-pub mod Areas
 pub mod Sound

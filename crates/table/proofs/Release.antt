@@ -17,6 +17,7 @@ use Rattle.protocol.specs.ConnectionTable.{fresh, is_used, is_unused, used_of, u
 use Rattle.protocol.proofs.ConnectionTable.{of_holds}
 use Rattle.connection.specs.Among.{is_gone}
 use Rattle.table.specs.Row.{used_first, dropped_at, drops_first}
+use Rattle.records.proofs.Areas.{none_counted}
 use Rattle.table.proofs.Walk.{get_d_any}
 use Rattle.table.proofs.Join.{used_then, unused_then}
 
@@ -64,12 +65,6 @@ unfolding every first
 before_first f [] = refl
 before_first f (x ∷ xs) =
     by_test (f x) (λ h. rw (first_yes f x xs h)) (λ h. rw (first_no f x xs h) (both (ap not h) (before_first f xs)))
-
-pub none_counted : {A : Type 0} (f : A → Bool) (t : List A) → count f t ≤ 0 → every (λ x. not (f x)) t ≡ true
-unfolding every
-none_counted f [] h = refl
-none_counted f (x ∷ xs) h =
-    by_test (f x) (λ t. absurd (omega (arith, count_yes f x xs t))) (λ t. both (ap not t) (none_counted f xs (omega (arith, count_no f x xs t))))
 
 abbrev area : Connection → Connection
 area r = fresh r.area

@@ -9,4 +9,4 @@ use Rattle.packing.proofs.is_plain.Goals as goal
 
 pub returns : goal.returns
 returns c t =
-    same_table c.args.t.now c.told-t (true_case _ c.all.result (cases_from_all c.all.new.self _ c.all.result SameRecord (λ _. ⊤) c.all.ensures.ran (YieldsList-from_slice (rows 8 0 c.args.t.now) (c.iter.ensures.rest ∙ c.rows.ensures.value)) (λ x q k. search (rules, tests)) (λ x q k. tt)) t)
+    same_table c.args.t.now c.told-t (true_case _ c.all.result (cases_from_all c.all.new.self _ c.all.result SameRecord (λ _. ⊤) c.all.ensures.ran (YieldsList-from_slice (rows 8 0 c.args.t.now) (c.iter.ensures.rest ∙ c.rows.ensures)) (λ x q k. search (rules, tests)) (λ x q k. tt)) t)

@@ -11,7 +11,7 @@ unfolding is_table
 returns-in-Some c =
     let w = c.in-Some.ensures.cases in
     let t = c.in-Some.t.now in
-    all_from_yields_List is_record _ _ c.all.result c.all.ensures.ran (YieldsList-from_slice (rows 8 0 t) (c.iter.ensures.rest ∙ c.rows.ensures.value)) (λ x b q k. search (rules, tests)) ∙ all_every is_record (rows 8 0 t) ∙ rw (w.same, w.long)
+    all_from_yields_List is_record _ _ c.all.result c.all.ensures.ran (YieldsList-from_slice (rows 8 0 t) (c.iter.ensures.rest ∙ c.rows.ensures)) (λ x b q k. search (rules, tests)) ∙ all_every is_record (rows 8 0 t) ∙ rw (w.same, w.long)
 
 pub returns-in-None : goal.returns-in-None
 unfolding is_table

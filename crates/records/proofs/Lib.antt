@@ -1,0 +1,4 @@
+pub mod Order
+pub mod Areas
+pub mod Fields
+pub mod Searches

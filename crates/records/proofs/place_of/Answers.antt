@@ -1,0 +1,14 @@
+-- The first record that holds the client.
+use Rattle.std.proofs.Common.{rules, tests}
+use Rattle.std.proofs.lemmas.Iterator.{YieldsList-from_slice}
+use Rattle.std.proofs.lemmas.Iterator.Search.{position_from_yields_List}
+use Rattle.protocol.specs.ConnectionTable.{holds}
+use Rattle.records.proofs.Searches.{place_found}
+use Rattle.records.proofs.place_of.Goals as goal
+
+pub returns : goal.returns
+returns g c =
+    let value = g.R.Record.value in
+    let rows = c.args.rows.now in
+    let f = (holds c.args.client) in
+    place_found value rows _ (g.met.R.Record.laws rows) f c.position.result (position_from_yields_List (λ x. f (value x)) _ _ c.position.result c.position.ensures.ran (YieldsList-from_slice rows c.iter.ensures.rest) (λ x b q k. search (rules, tests)))
