@@ -1,7 +1,7 @@
 // Calls of the server, each printed with what was given, what came out and what it left. A call is right when the whole answer buffer, the answer's length, the refusal, the records in use and the image are as they should be.
 use crate::rows;
-use crate::rows::Score;
-use protocol::{Connection, Refusal, SdoClientInfo, SdoServerState};
+use crate::rows::Card;
+use protocol::{Called, Connection, Refusal, SdoClientInfo, SdoServerState};
 use show::Start;
 use std::{fmt, io};
 
@@ -59,45 +59,71 @@ impl From<&str> for Left {
     }
 }
 
-// What should come of a call: the text of the bytes that begin its answer, the part of the object behind them, a refusal, and what the call leaves.
+// An answer that should come: the text of the bytes that begin it, and the part of the object behind them.
 #[derive(Clone, Copy)]
-pub struct Due<'a> {
+pub struct Reply<'a> {
     pub head: &'a str,
     pub part: &'a [u8],
-    pub refused: Option<Refusal>,
+}
+
+impl fmt::Display for Reply<'_> {
+    fn fmt<W: fmt::Write>(&self, f: &mut fmt::Formatter<W>) -> fmt::Result {
+        f.write_str(self.head)?;
+        if !self.part.is_empty() {
+            write!(f, " and {} bytes of the object", self.part.len())?;
+        }
+        Ok(())
+    }
+}
+
+// What should come of a call: an answer, nothing or a refusal, and what the call leaves.
+#[derive(Clone, Copy)]
+pub struct Due<'a> {
+    pub outcome: Result<Option<Reply<'a>>, Refusal>,
     pub left: Left,
+}
+
+impl<'a> Due<'a> {
+    // An answer is due.
+    pub fn answer(head: &'a str, part: &'a [u8], left: Left) -> Due<'a> {
+        Due {
+            outcome: Ok(Some(Reply { head, part })),
+            left,
+        }
+    }
 }
 
 impl fmt::Display for Due<'_> {
     fn fmt<W: fmt::Write>(&self, f: &mut fmt::Formatter<W>) -> fmt::Result {
-        write!(f, "due   {}", self.head)?;
-        if !self.part.is_empty() {
-            write!(f, " and {} bytes of the object", self.part.len())?;
-        }
-        if let Some(refusal) = self.refused {
-            write!(f, " refused with {}", u8::from(refusal))?;
+        f.write_str("due   ")?;
+        match self.outcome {
+            Ok(Some(reply)) => write!(f, "{reply}")?,
+            Ok(None) => {}
+            Err(refusal) => write!(f, " refused with {}", u8::from(refusal))?,
         }
         write!(f, "; {}", self.left)
     }
 }
 
-// What came of a call: the answer buffer, and how many of its bytes are the answer.
+// What came of a call: the answer buffer, the length of the answer, nothing or a refusal, and what the call leaves.
+// (The whole buffer is compared, so that it stays beside the answer's length.)
 #[derive(Clone, Copy)]
 struct Came<'a> {
     answer: &'a [u8],
-    len: usize,
-    refused: Option<Refusal>,
+    outcome: Result<Option<usize>, Refusal>,
     left: Left,
 }
 
 impl fmt::Display for Came<'_> {
     fn fmt<W: fmt::Write>(&self, f: &mut fmt::Formatter<W>) -> fmt::Result {
-        let bytes = octets::part(self.answer, 0, self.len);
-        write!(f, "came  {}", Start { bytes, shown: 16 })?;
-        if let Some(refusal) = self.refused {
-            write!(f, " refused with {}", u8::from(refusal))?;
-        } else if self.len == 0 {
-            f.write_str(" nothing")?;
+        f.write_str("came  ")?;
+        match self.outcome {
+            Ok(Some(length)) => {
+                let bytes = octets::part(self.answer, 0, length);
+                write!(f, "{}", Start { bytes, shown: 16 })?;
+            }
+            Ok(None) => f.write_str(" nothing")?,
+            Err(refusal) => write!(f, " refused with {}", u8::from(refusal))?,
         }
         write!(f, "; {}", self.left)
     }
@@ -111,16 +137,37 @@ pub struct Call<'a> {
     pub due: Due<'a>,
 }
 
-// An answer without a part of the object.
-pub fn leaves(head: &str, left: Left) -> Due<'_> {
-    Due {
-        head,
-        part: &[],
-        refused: None,
-        left,
+impl fmt::Display for Call<'_> {
+    fn fmt<W: fmt::Write>(&self, f: &mut fmt::Formatter<W>) -> fmt::Result {
+        let given = Start {
+            bytes: self.bytes,
+            shown: 24,
+        };
+        write!(f, "{}\n            given {given}", self.what)
     }
 }
 
+// A tick at a clock. The card has it of one table: with an upload that is due at 1,000,000.
+#[derive(Clone, Copy)]
+struct Tick(u64);
+
+impl fmt::Display for Tick {
+    fn fmt<W: fmt::Write>(&self, f: &mut fmt::Formatter<W>) -> fmt::Result {
+        f.write_str("an upload due at 1000000 without retries\n")?;
+        write!(f, "            given  a tick at {}", self.0)
+    }
+}
+
+// The server between calls: its table, its area and its image, and the image as it should be after each call.
+#[derive(Drop)]
+pub struct Bench<'a, const N: usize> {
+    table: [Connection; 8],
+    area: [u8; 65536],
+    image: [u8; N],
+    object: &'a [u8],
+}
+
+// The client of all calls.
 fn client() -> SdoClientInfo {
     SdoClientInfo::Asnd {
         node: 1,
@@ -153,64 +200,24 @@ fn left_in(t: [Connection; 8]) -> Left {
     Left::Dropped
 }
 
-// What came of a call whose outcome is the length of its answer, 0 where it has none.
-fn came_of(outcome: Result<usize, Refusal>, answer: &[u8], t: [Connection; 8]) -> Came<'_> {
-    Came {
-        answer,
-        len: outcome.unwrap_or(0),
-        refused: outcome.err(),
-        left: left_in(t),
-    }
-}
-
-// Puts the answer that is due at the start of a buffer, and answers its length.
-fn put_due(due: Due, wanted: &mut [u8]) -> usize {
-    let n = rows::read(due.head, wanted).len();
-    octets::copy_at(wanted, n, due.part);
-    n.wrapping_add(due.part.len())
+// Puts the answer that is due at the start of a buffer, and answers what should come: its length, nothing or a refusal.
+fn put_due(due: Due, wanted: &mut [u8]) -> Result<Option<usize>, Refusal> {
+    let Some(reply) = due.outcome? else {
+        return Ok(None);
+    };
+    let n = rows::read(reply.head, wanted).len();
+    octets::copy_at(wanted, n, reply.part);
+    Ok(Some(n.wrapping_add(reply.part.len())))
 }
 
 // Whether what came, and the image, are as they should be.
 fn is_right(came: Came, due: Due, image: &[u8], object: &[u8]) -> bool {
     let mut wanted = [FILL; 1468];
-    let n = put_due(due, &mut wanted);
+    let outcome = put_due(due, &mut wanted);
     came.answer == wanted.as_slice()
-        && came.len == n
-        && came.refused == due.refused
+        && came.outcome == outcome
         && came.left == due.left
         && image == object
-}
-
-// The end of a call's row: what came, and what was due where that is something else.
-// (Both print by Display: this is the step that prints the second or not.)
-fn say_outcome(rt: &impl Print, came: Came, due: Due, same: bool) -> io::Result<()> {
-    println!(rt; "            {came}")?;
-    if !same {
-        println!(rt; "            {due}")?;
-    }
-    Ok(())
-}
-
-// A request of the client at clock 0, as bytes, and the table after it. `object` is the image as it should be after the call.
-pub fn asks(
-    rt: &impl Print,
-    score: &mut Score,
-    t: [Connection; 8],
-    area: &mut [u8],
-    image: &mut [u8],
-    object: &[u8],
-    call: Call,
-) -> io::Result<[Connection; 8]> {
-    let Call { what, bytes, due } = call;
-    let mut answer = [FILL; 1468];
-    let called = owned::handle_request(t, area, image, &mut answer, client(), 0, bytes);
-    let length = called.outcome.map(|answered| answered.length);
-    let came = came_of(length, &answer, called.table);
-    let same = is_right(came, due, image, object);
-    rows::verdict(rt, score, same)?;
-    println!(rt; "{what}\n            given {}", Start { bytes, shown: 24 })?;
-    say_outcome(rt, came, due, same)?;
-    Ok(called.table)
 }
 
 // The part of an object that a text names, by a place and a length of two bytes each.
@@ -221,68 +228,102 @@ fn part_of<'a>(object: &'a [u8], text: &str) -> &'a [u8] {
     octets::part(object, usize::from(from), usize::from(size))
 }
 
-// A request of a line: what is printed, the request, the bytes that begin its answer, the image's part behind them, and what is left.
-fn step(
-    rt: &impl Print,
-    score: &mut Score,
-    t: [Connection; 8],
-    area: &mut [u8],
-    image: &mut [u8],
-    object: &[u8],
-    line: &str,
-) -> io::Result<[Connection; 8]> {
-    let (what, rest) = line.split_once('|').unwrap_or((line, ""));
-    let (given, rest) = rest.split_once('|').unwrap_or((rest, ""));
-    let (head, rest) = rest.split_once('|').unwrap_or((rest, ""));
-    let (part, word) = rest.split_once('|').unwrap_or((rest, ""));
-    let mut buffer = [0; 32];
-    let bytes = rows::read(given, &mut buffer);
-    let due = Due {
-        part: part_of(object, part),
-        ..leaves(head, Left::from(word))
-    };
-    let call = Call { what, bytes, due };
-    asks(rt, score, t, area, image, object, call)
-}
-
-// Plays the requests of a text, one to a line, on an image and an area that begins with the bytes 1 to 6. `object` is the image as it should be after each.
-pub fn script<const N: usize>(
-    rt: &impl Print,
-    score: &mut Score,
-    mut t: [Connection; 8],
-    mut image: [u8; N],
-    object: &[u8],
-    text: &str,
-) -> io::Result<()> {
-    let mut area = [0u8; 65536];
-    octets::copy_at(&mut area, 0, &[1, 2, 3, 4, 5, 6]);
-    for line in text.lines() {
-        t = step(rt, score, t, &mut area, &mut image, object, line)?;
+impl<P: Print> Card<'_, P> {
+    // A call's row: what was given, what came and, where that is something else, what was due.
+    // (Each prints by Display: this is the step that counts, and that prints the last or not.)
+    fn say_call(
+        &mut self,
+        given: &impl fmt::Display,
+        came: Came,
+        due: Due,
+        same: bool,
+    ) -> io::Result<()> {
+        self.verdict(same)?;
+        println!(self.rt; "{given}")?;
+        println!(self.rt; "            {came}")?;
+        if !same {
+            println!(self.rt; "            {due}")?;
+        }
+        Ok(())
     }
-    Ok(())
 }
 
-// A tick, on an image that it leaves as it is, and the table after it.
-// (The table and the clock are the tick's own two parameters.)
-pub fn ticks<'a>(
-    rt: &impl Print,
-    score: &mut Score,
-    t: [Connection; 8],
-    area: &'a [u8],
-    image: &'a [u8],
-    clock: u64,
-    due: Due,
-) -> io::Result<[Connection; 8]> {
-    let mut answer = [FILL; 1468];
-    let called = owned::tick(t, area, image, &mut answer, clock);
-    let length = called
-        .outcome
-        .map(|said| said.map_or(0, |answered| answered.length));
-    let came = came_of(length, &answer, called.table);
-    let same = is_right(came, due, image, image);
-    rows::verdict(rt, score, same)?;
-    println!(rt; "an upload due at 1000000 without retries")?;
-    println!(rt; "            given  a tick at {clock}")?;
-    say_outcome(rt, came, due, same)?;
-    Ok(called.table)
+impl<'a, const N: usize> Bench<'a, N> {
+    // A bench whose area is all zeros.
+    pub fn new(table: [Connection; 8], image: [u8; N], object: &'a [u8]) -> Bench<'a, N> {
+        Bench {
+            table,
+            area: [0; 65536],
+            image,
+            object,
+        }
+    }
+
+    // A request of the client at clock 0, as bytes.
+    pub fn asks(&mut self, card: &mut Card<'_, impl Print>, call: Call) -> io::Result<()> {
+        let mut answer = [FILL; 1468];
+        let Called { outcome, table } = owned::handle_request(
+            self.table,
+            &mut self.area,
+            &mut self.image,
+            &mut answer,
+            client(),
+            0,
+            call.bytes,
+        );
+        self.table = table;
+        let came = Came {
+            answer: &answer,
+            outcome: outcome.map(|answered| Some(answered.length)),
+            left: left_in(table),
+        };
+        let same = is_right(came, call.due, &self.image, self.object);
+        card.say_call(&call, came, call.due, same)
+    }
+
+    // A request of a line: what is printed, the request, the bytes that begin its answer, the image's part behind them, and what is left.
+    fn step(&mut self, card: &mut Card<'_, impl Print>, line: &str) -> io::Result<()> {
+        let (what, rest) = line.split_once('|').unwrap_or((line, ""));
+        let (given, rest) = rest.split_once('|').unwrap_or((rest, ""));
+        let (head, rest) = rest.split_once('|').unwrap_or((rest, ""));
+        let (part, word) = rest.split_once('|').unwrap_or((rest, ""));
+        let mut buffer = [0; 32];
+        let bytes = rows::read(given, &mut buffer);
+        let due = Due::answer(head, part_of(self.object, part), Left::from(word));
+        self.asks(card, Call { what, bytes, due })
+    }
+
+    // Plays the requests of a text, one to a line, on an area that begins with the bytes 1 to 6.
+    pub fn script(&mut self, card: &mut Card<'_, impl Print>, text: &str) -> io::Result<()> {
+        octets::copy_at(&mut self.area, 0, &[1, 2, 3, 4, 5, 6]);
+        for line in text.lines() {
+            self.step(card, line)?;
+        }
+        Ok(())
+    }
+
+    // A tick at a clock.
+    pub fn ticks(
+        &mut self,
+        card: &mut Card<'_, impl Print>,
+        clock: u64,
+        due: Due,
+    ) -> io::Result<()> {
+        let mut answer = [FILL; 1468];
+        let Called { outcome, table } = owned::tick(
+            self.table,
+            &self.area,
+            &self.image,
+            &mut answer,
+            clock,
+        );
+        self.table = table;
+        let came = Came {
+            answer: &answer,
+            outcome: outcome.map(|said| said.map(|answered| answered.length)),
+            left: left_in(table),
+        };
+        let same = is_right(came, due, &self.image, self.object);
+        card.say_call(&Tick(clock), came, due, same)
+    }
 }

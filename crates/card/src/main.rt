@@ -7,7 +7,7 @@ mod codecs;
 mod rows;
 mod tables;
 
-use crate::rows::Score;
+use crate::rows::Card;
 use std::io;
 
 const CODEC_ROWS: &str = "Bench card: the rows that the codec decides, bytes in hex. A header is
@@ -27,25 +27,31 @@ X abort, id and code| 07 00 00 02 06| 00 07 30 00 04 00 00 00 00 00 02 06
 C undecodable| 05 07 00| 05
 H header numbers 63, 0, marks 2, 0| 3F 00 02 00| FE 00 00 00";
 
-fn call_rows(rt: &impl Print, score: &mut Score) -> io::Result<()> {
-    print!(rt; "Bench card: the rows that are calls. ")?;
-    println!(rt; "The whole answer buffer is compared,")?;
-    println!(rt; "with the records in use and the image; long frames are printed in part.")?;
-    calls::reading_rows(rt, score)?;
-    calls::transfer_rows(rt, score)?;
-    calls::length_rows(rt, score)
-}
+impl<P: Print> Card<'_, P> {
+    // The rows that are calls.
+    fn call_rows(&mut self) -> io::Result<()> {
+        print!(self.rt; "Bench card: the rows that are calls. ")?;
+        println!(self.rt; "The whole answer buffer is compared,")?;
+        println!(self.rt;
+            "with the records in use and the image; long frames are printed in part."
+        )?;
+        self.reading_rows()?;
+        self.transfer_rows()?;
+        self.length_rows()
+    }
 
-fn table_rows(rt: &impl Print, score: &mut Score) -> io::Result<()> {
-    println!(rt; "DS 301: the tables that the Rust cites, as far as it follows them.")?;
-    codecs::rows(rt, score, tables::LAYOUTS)?;
-    tables::payload_rows(rt, score)
+    // The rows of the DS 301 tables.
+    fn table_rows(&mut self) -> io::Result<()> {
+        println!(self.rt; "DS 301: the tables that the Rust cites, as far as it follows them.")?;
+        self.codec_rows(tables::LAYOUTS)?;
+        self.payload_rows()
+    }
 }
 
 fn main(rt: HostRuntime) -> io::Result<()> {
-    let mut score = Score { rows: 0, differ: 0 };
-    codecs::rows(&rt, &mut score, CODEC_ROWS)?;
-    call_rows(&rt, &mut score)?;
-    table_rows(&rt, &mut score)?;
-    println!(rt; "{} rows, {} differ", score.rows, score.differ)
+    let mut card = Card::new(&rt);
+    card.codec_rows(CODEC_ROWS)?;
+    card.call_rows()?;
+    card.table_rows()?;
+    card.close()
 }

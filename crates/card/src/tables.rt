@@ -1,7 +1,8 @@
 // The layouts of the DS 301 tables that the Rust's comments cite, as far as the Rust follows them: the flags of Table 54 stand where document 01 has them.
 use crate::bench;
+use crate::bench::Bench;
 use crate::calls::OBJECT;
-use crate::rows::Score;
+use crate::rows::Card;
 use protocol::SdoServerState;
 use std::io;
 
@@ -45,11 +46,13 @@ the same without the reserved byte| 02 06 00 00 00 07 00 02 03 00 00 00 01 20 01
 const WRITE: &str =
     "Table 59, WriteByIndex: 2001, sub-index 1, reserved FF, then 34 12| 02 06 00 00 00 07 00 01 06 00 00 00 01 20 01 FF 34 12| 06 06 00 00 00 07 10 00 00 00 00 00| 00 00 00 00|dropped";
 
-// Tables 61 and 59.
-pub fn payload_rows(rt: &impl Print, score: &mut Score) -> io::Result<()> {
-    bench::script(rt, score, record::empty_table(), OBJECT, &OBJECT, READS)?;
-    let mut image = OBJECT;
-    octets::copy_at(&mut image, 14, &[0, 0]);
-    let t = bench::in_state(0, 0, SdoServerState::Opening);
-    bench::script(rt, score, t, image, &OBJECT, WRITE)
+impl<P: Print> Card<'_, P> {
+    // Tables 61 and 59.
+    pub fn payload_rows(&mut self) -> io::Result<()> {
+        Bench::new(record::empty_table(), OBJECT, &OBJECT).script(self, READS)?;
+        let mut image = OBJECT;
+        octets::copy_at(&mut image, 14, &[0, 0]);
+        let t = bench::in_state(0, 0, SdoServerState::Opening);
+        Bench::new(t, image, &OBJECT).script(self, WRITE)
+    }
 }

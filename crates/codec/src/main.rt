@@ -52,6 +52,8 @@ impl TryFrom<u8> for Item {
 }
 
 // A length in an item. One above its limit counts as 0: no payload is waited for, and the item is refused.
+// (0 and no None: how long an item is is a number for every item.)
+// (`items::image_length` asks the same of one number of another format: a function of both would be a public one, with a contract and an edit of its own, to save this one line.)
 fn limited(n: u16, limit: u16) -> usize
     ensures { result ≤ limit }
 {
@@ -82,6 +84,7 @@ fn two_bits(byte: u8) -> Option<u8> {
 }
 
 // Item 1: a sequence header is decoded.
+// (The first byte of each answer is the transcript's number for what came.)
 fn header_decode(item: &[u8], out: &mut impl Write) -> io::Result<()> {
     match sequence::deserialize(octets::rest(item, 2)) {
         Ok(h) => out.write_all(&[0, h.receive, u8::from(h.rcon), h.send, u8::from(h.scon)]),
@@ -125,6 +128,7 @@ fn header_of(item: &[u8]) -> Option<SequenceLayerHeader> {
 }
 
 // Item 2: a sequence header is encoded into a buffer of n bytes.
+// (Without a heap no buffer is made of the item's length, here and below: it is the front of an array.)
 fn header_encode(h: SequenceLayerHeader, n: u8, out: &mut impl Write) -> io::Result<()> {
     let mut space = [FILL; 255];
     let buffer = &mut space[..usize::from(n)];

@@ -42,6 +42,7 @@ pub fn unplayed(input: &[u8; INPUT], w: Window) -> &[u8]
 }
 
 // Behind an item of n bytes; one that is not known ends the run where it begins.
+// (The caller has the length before the item is played, and whether it is known only then: an Option would be made of both for this call.)
 #[tactic(auto, unfolding(crate::specs::Runs::behind, picks::specs::Pick::pick))]
 pub fn passed(w: Window, n: usize, known: bool) -> Window
     ensures { result ≡ behind w n known }

@@ -78,6 +78,7 @@ pub fn length_of(s: &[u8]) -> usize
 }
 
 // The client of item 1.
+// (`record::client_of` is this call too: each says where a client stands in its format.)
 pub fn client_of(item: &[u8]) -> SdoClientInfo
     ensures { result ≡ client_in item.now }
 {

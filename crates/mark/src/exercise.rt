@@ -5,30 +5,25 @@ use marking::Exercise;
 use std::env::FillError;
 use std::rt::Env;
 
-// The number that a text spells, where it is one and at most 65,535.
-fn spelled(text: &[u8], radix: u16) -> Option<u16>
+// The number that a text spells, where it is one and at most 65,535. One with a plus in front is none.
+fn spelled(text: &[u8], radix: u32) -> Option<u16>
     requires least { 2 ≤ radix }
     requires most { radix ≤ 36 }
 {
-    if text.is_empty() {
+    if text.starts_with(b"+") {
         return None;
     }
-    let mut number = 0u16;
-    for digit in text {
-        let value = char::from(*digit).to_digit(u32::from(radix))?;
-        let value = u16::try_from(value).ok()?;
-        number = number.checked_mul(radix)?.checked_add(value)?;
-    }
-    Some(number)
+    u16::from_str_radix(str::from_utf8(text).ok()?, radix).ok()
 }
 
-// The number of an argument. One that is too long for a number counts as empty.
-fn argument(rt: &impl Env, i: usize, radix: u16) -> Option<u16>
+// The number of an argument. One of more than eight bytes is none.
+// (The environment fills a buffer and tells how much of it: without a heap an argument has no text of its own.)
+fn argument(rt: &impl Env, i: usize, radix: u32) -> Option<u16>
     requires least { 2 ≤ radix }
     requires most { radix ≤ 36 }
 {
     let mut text = [0; 8];
-    let n = rt.arg(i, &mut text).unwrap_or(0);
+    let n = rt.arg(i, &mut text).ok()?;
     spelled(text.get(..n)?, radix)
 }
 

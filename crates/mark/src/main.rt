@@ -28,6 +28,7 @@ impl<P: Print> Player for Marking<'_, P> {
     }
 
     // What is played is shown on the sheet.
+    // (`replay` plays alike: what both share is `Lent::play`.)
     fn play(&mut self, item: &[u8]) -> io::Result<bool> {
         let before = self.lent.table;
         let mut answer = [0; ANSWER];

@@ -51,8 +51,10 @@ pub fn object_of(e: Exercise) -> Object {
 
 // Whether a request has the number of the client's frame before, and is no error response.
 fn is_repeat(row: [Connection; 8], client: SdoClientInfo, frame: Frame) -> bool {
-    let place = table::place_of(row, client);
-    let record = table::record_at(row, place.unwrap_or(8));
+    let Some(place) = records::place_of(&row, client) else {
+        return false;
+    };
+    let record = records::record_at(&row, place);
     match frame {
         Frame::Short => false,
         Frame::Empty(header) | Frame::Unreadable(header) | Frame::Command(header, _) => {
@@ -61,10 +63,7 @@ fn is_repeat(row: [Connection; 8], client: SdoClientInfo, frame: Frame) -> bool 
                 record.state,
                 SdoServerState::Closed | SdoServerState::Opening
             );
-            record.used
-                && open
-                && record.receive == header.send
-                && header.rcon != ReceiveConnState::ErrorResponse
+            open && record.receive == header.send && header.rcon != ReceiveConnState::ErrorResponse
         }
     }
 }
@@ -117,8 +116,8 @@ impl Sheet {
 
     // A reading is finished.
     fn finish(&mut self, finish: Finish) {
-        if self.finished < 8 {
-            self.finishes[self.finished as usize] = Some(finish);
+        if let Some(place) = self.finishes.get_mut(self.finished as usize) {
+            *place = Some(finish);
         }
         self.finished = self.finished.wrapping_add(1);
         if finish.length == self.exercise.length && self.passed.is_none() {
@@ -173,6 +172,7 @@ impl Sheet {
     }
 
     // An answer to a client, and whether its connection is closed then. A tick's has no request.
+    // (The answer's length stands in Answered and its bytes in the lent buffer, as document 01 has it.)
     fn answer_step(
         &mut self,
         rt: &impl Print,
@@ -182,7 +182,7 @@ impl Sheet {
     ) -> io::Result<()> {
         let bytes = octets::part(call.answer, 0, said.length);
         self.answered(rt, said.client, request, bytes)?;
-        if table::place_of(call.after, said.client).is_none() {
+        if records::place_of(&call.after, said.client).is_none() {
             println!(rt; "  then:    the connection is closed")?;
         }
         println!(rt; "")

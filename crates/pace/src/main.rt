@@ -23,7 +23,7 @@ enum Call {
 }
 
 // The call of a letter: where no other has it, a query, which is lent if the letter is a capital.
-// (Each letter has its own variant, so the two are said one beside the other.)
+// (Any letter is a call, so From and no TryFrom.)
 impl From<u8> for Call {
     fn from(letter: u8) -> Self {
         match letter {

@@ -32,14 +32,18 @@ impl<W: Write> Player for Replay<W> {
         match played.done {
             Done::Unknown => return Ok(false),
             Done::Lends => {}
-            Done::Calls(told) => transcript::put_entry(
-                told,
-                self.lent,
-                &answer,
-                &self.area,
-                &self.image,
-                &mut self.out,
-            )?,
+            Done::Calls(told) => {
+                let mut entry = [0; transcript::ENTRY];
+                let n = transcript::put_entry(
+                    told,
+                    self.lent,
+                    &answer,
+                    &self.area,
+                    &self.image,
+                    &mut entry,
+                );
+                self.out.write_all(&entry[..n])?;
+            }
         }
         Ok(true)
     }

@@ -56,15 +56,13 @@ pub struct Played {
 }
 
 // Item 6: area byte i becomes (b + 7 i + i / 256) mod 256.
-// (A byte's value follows from its place: an iterator would count the places too.)
-#[tactic(auto, using(crate::proofs::Buffers::area_none, crate::proofs::Buffers::area_more))]
 fn fill_area(b: u8, area: &mut [u8])
     requires { 65536 ≤ length area.old }
     ensures { area.new ≡ filled b area.old }
 {
     let first = b as usize;
-    for i in 0..AREA {
-        area[i] = ((first + 7 * i + i / 256) % 256) as u8;
+    for (i, byte) in area[..AREA].iter_mut().enumerate() {
+        *byte = ((first + 7 * i + i / 256) % 256) as u8;
     }
 }
 

@@ -1,14 +1,14 @@
 -- Laws of digits, bytes and lines: what their loops have at the head, after a turn and at the end.
-use Prim.Native.Nat.{ℕ, zero, suc, ◌+◌, ◌-◌, ◌/◌, ◌^◌, ◌≤◌, ◌<◌}
+use Prim.Native.Nat.{ℕ, zero, suc, ◌+◌, ◌/◌, ◌^◌, ◌≤◌, ◌<◌}
 use native.Mathlib.Omega.{arith}
 use native.Mathlib.Nat.{pow-suc}
-use mathlib.Core.Path.{◌≡◌, refl, sym, ap}
-use mathlib.Core.Bool.{Bool, true, false, not}
+use mathlib.Core.Path.{◌≡◌, refl, sym, ap, ◌∙◌}
+use mathlib.Core.Bool.{Bool, true, false, not, cond}
 use Prim.Native.String.{String}
 use mathlib.Core.List.{List, [], ◌∷◌, ◌++◌, append_assoc, append-nil}
 use lib.Dec.{ltb, eqb}
-use lib.ListN.{length, take, get_or, length-append}
-use Rattle.std.specs.List.{position, position_or_len}
+use lib.ListN.{length, take, drop, get_or, length-append}
+use Rattle.std.specs.List.{position, position_or_len, slice_split, onto_first}
 use Rattle.std.specs.Prelude.{Option}
 use Rattle.std.specs.Option.{unwrap_or}
 use Rattle.std.proofs.lemmas.List.{take_more}
@@ -48,11 +48,39 @@ found f xs r e = rw e (go (ltb (position_or_len f xs) (length xs)) refl)
     go true e = rw e (place_is f xs)
     go false e = rw e (omega (arith, first_le f xs, place_is f xs, ltb-false _ _ e))
 
--- a line that is not the first
-pub line_more : (n : ℕ) (text : List ℕ) → 0 < n → line_of n text ≡ line_of (n - 1) (behind_mark 10 text)
+-- the parts of a text between its ends of line: the first ends at the first of them, and the next ones are those of what stands behind it
+onto_head : (x : ℕ) (parts : List (List ℕ)) → get_or (onto_first x parts) 0 [] ≡ x ∷ get_or parts 0 []
+onto_head x [] = refl
+onto_head x (part ∷ parts) = refl
+
+onto_next : (x n : ℕ) (parts : List (List ℕ)) → get_or (onto_first x parts) (suc n) [] ≡ get_or parts (suc n) []
+onto_next x n [] = refl
+onto_next x n (part ∷ parts) = refl
+
+head_part : (text : List ℕ) → get_or (slice_split (λ c. eqb c 10) text) 0 [] ≡ until_mark 10 text
+unfolding until_mark first pick
+head_part [] = refl
+head_part (x ∷ xs) = go (eqb x 10) (head_part xs)
+  where
+    go : (b : Bool) → get_or (slice_split (λ c. eqb c 10) xs) 0 [] ≡ until_mark 10 xs → get_or (cond b ([] ∷ slice_split (λ c. eqb c 10) xs) (onto_first x (slice_split (λ c. eqb c 10) xs))) 0 [] ≡ take (pick b 0 (suc (first (λ c. eqb c 10) xs))) (x ∷ xs)
+    go true e = refl
+    go false e = rw (onto_head x (slice_split (λ c. eqb c 10) xs), e) refl
+
+next_part : (n : ℕ) (text : List ℕ) → get_or (slice_split (λ c. eqb c 10) text) (suc n) [] ≡ get_or (slice_split (λ c. eqb c 10) (behind_mark 10 text)) n []
+unfolding behind_mark first pick
+next_part zero [] = refl
+next_part (suc n) [] = refl
+next_part n (x ∷ xs) = go (eqb x 10) (next_part n xs)
+  where
+    go : (b : Bool) → get_or (slice_split (λ c. eqb c 10) xs) (suc n) [] ≡ get_or (slice_split (λ c. eqb c 10) (behind_mark 10 xs)) n [] → get_or (cond b ([] ∷ slice_split (λ c. eqb c 10) xs) (onto_first x (slice_split (λ c. eqb c 10) xs))) (suc n) [] ≡ get_or (slice_split (λ c. eqb c 10) (drop (pick b 0 (suc (first (λ c. eqb c 10) xs))) xs)) n []
+    go true e = refl
+    go false e = onto_next x n (slice_split (λ c. eqb c 10) xs) ∙ e
+
+-- a line is the part with its number
+pub line_part : (n : ℕ) (text : List ℕ) → get_or (slice_split (λ c. eqb c 10) text) n [] ≡ line_of n text
 unfolding line_of
-line_more zero text h = absurd (omega arith)
-line_more (suc n) text h = let e : suc n - 1 ≡ n = omega arith in rw e
+line_part zero text = head_part text
+line_part (suc n) text = next_part n text ∙ line_part n (behind_mark 10 text)
 
 -- a text has no end of line in it
 abbrev pub inline : List ℕ → Bool

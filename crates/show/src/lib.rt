@@ -26,6 +26,7 @@ impl fmt::Display for Bytes<'_> {
 }
 
 // The first bytes, and how many follow.
+// (All the bytes stay beside how many of them are shown, since how many more there are is printed.)
 #[derive(Clone, Copy)]
 pub struct Start<'a> {
     pub bytes: &'a [u8],
@@ -47,7 +48,7 @@ impl fmt::Display for Start<'_> {
 }
 
 // Where a mark first stands in a text: its length where it does not.
-// (Both callers ask for the length there: all of the text stands before, and nothing behind.)
+// (Both callers ask for the length there: all of the text stands before, and nothing behind. Text and mark: a receiver and its argument.)
 fn find(text: &[u8], mark: u8) -> usize
     ensures value { result ≡ first (λ x. eqb x mark) text.now }
     ensures upper_bound { result ≤ length text.now }
@@ -71,15 +72,11 @@ pub fn behind(text: &[u8], mark: u8) -> &[u8]
     octets::rest(text, find(text, mark) + 1)
 }
 
-// The line of a text with this number, from 0.
-// (The range counts the lines passed, and has no index.)
-#[tactic(auto, unfolding(crate::specs::Text::line_of), using(crate::proofs::Texts::line_more))]
+// The line of a text with this number, from 0; one that the text does not have is empty.
 pub fn line(text: &[u8], n: u8) -> &[u8]
     ensures { result.now ≡ line_of n text.now }
 {
-    let mut rest = text;
-    for _ in 0..n {
-        rest = behind(rest, b'\n');
-    }
-    before(rest, b'\n')
+    text.split(|b| *b == b'\n')
+        .nth(usize::from(n))
+        .unwrap_or(&[])
 }
