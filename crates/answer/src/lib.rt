@@ -41,6 +41,7 @@ fn payload<'a>(share: &'a [u8], image: &'a [u8], body: Body, numbers: &'a [u8; 4
 }
 
 // Writes an answer into a lent buffer and tells its length. A buffer under 1,468 bytes is refused and stays whole.
+// (A length and no slice, here and in `server::put_answer`: document 01 has the answer in a lent buffer, with its length told.)
 #[tactic(auto, unfolding(protocol::specs::Constants::ANSWER_MIN, picks::specs::Pick::pick))]
 pub fn write_answer<'a>(
     r: SdoResponseData,

@@ -15,6 +15,7 @@ pub fn is_client(s: &[u8]) -> bool
 }
 
 // The client in its bytes.
+// (Here and in client_bytes the first byte becomes a variant, and a variant its byte: 0 is ASnd, any other is read as UDP.)
 pub fn client_in(s: &[u8; 8]) -> SdoClientInfo
     ensures { result ≡ client_of s.now }
 {

@@ -38,6 +38,7 @@ fn header_of(id: CommandId, buffer: &[u8]) -> CommandLayerHeader
 }
 
 // What the bytes are, their fixed header given: the total and the payload must be there whole.
+// (A header and the bytes that it was read of, or goes to: a receiver and its argument.)
 #[tactic(auto, using(protocol::proofs::Command::decode_header_cut, protocol::proofs::Command::decode_payload_cut, protocol::proofs::Command::decode_whole))]
 fn with_header(h: CommandLayerHeader, buffer: &[u8]) -> Result<SdoCommand, CommandError>
     ensures { told_command buffer.now result ≡ decode_with h buffer.now }
@@ -108,6 +109,7 @@ fn put_total(s: Segmentation, d: Option<u32>, buffer: &mut [u8])
 }
 
 // Writes the command with its payload at the start of the buffer, as far as the buffer goes; its other bytes stay.
+// (Command and payload stay two, here and below: the payload may stand in the image or in the client's share, and is lent.)
 #[tactic(auto, using(protocol::proofs::Command::stored_command))]
 pub fn store(c: SdoCommand, payload: &[u8], buffer: &mut [u8])
     ensures { buffer.new ≡ splice 0 (encode_command flag_places (with_payload c payload.now)) buffer.old }
@@ -121,6 +123,7 @@ pub fn store(c: SdoCommand, payload: &[u8], buffer: &mut [u8])
 }
 
 // Writes the command with its payload at the start of the buffer, whose other bytes stay. A buffer that is too short stays whole.
+// (It answers how many bytes it wrote, as the Rust does: the buffer is the caller's.)
 #[tactic(auto, using(protocol::proofs::Coding::written_short, protocol::proofs::Coding::left_short, protocol::proofs::Coding::written_fits, protocol::proofs::Coding::left_fits, protocol::proofs::Command::encoded_length))]
 pub fn serialize(c: SdoCommand, payload: &[u8], buffer: &mut [u8]) -> Result<usize, BufferTooShort>
     ensures told { told_written result ≡ written (encode_command flag_places (with_payload c payload.now)) buffer.old }

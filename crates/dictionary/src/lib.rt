@@ -30,6 +30,7 @@ pub struct Parameters {
 }
 
 // Whether the index in an entry's bytes is one of a range.
+// (The range's two bounds go as two: a struct of them would be made for each look-up, and each clause would name its fields.)
 #[tactic(auto, unfolding(octets::specs::Octets::le))]
 fn is_near(entry: &[u8; 12], low: u16, high: u16) -> bool
     ensures { result ≡ is_near low high entry.now }
@@ -56,6 +57,7 @@ fn count_far(fours: &[[u8; 48]], low: u16, high: u16) -> usize
 }
 
 // The entries of an image, as many as it says; those behind its end are of zeros.
+// (The number is the image's own word, and may be more than it holds: places behind its end count, so neither a slice nor an iterator has them.)
 #[derive(Clone, Copy)]
 struct Entries<'a> {
     image: &'a [u8],

@@ -9,6 +9,7 @@ use handlers::Asked;
 use protocol::{AbortCode, Action, SdoServerState, SdoTransferState, Segmentation};
 
 // Whether data at an offset goes beyond the total.
+// (Total and offset as in `state`.)
 fn is_beyond(total: u32, offset: u32, n: usize) -> bool
     ensures { result ≡ ltb total (offset + n) }
 {
@@ -28,6 +29,7 @@ fn end_of(t: SdoTransferState, bytes: &[u8]) -> Option<u32>
 
 // A Segment write whose data is stored: the download goes on where it ends.
 // (The transfer by update: it names the numbers that change and no other.)
+// (Transfer and clock, and wherever a table or a row comes with it: a receiver and its argument.)
 fn write_segment(asked: Asked, image: &[u8], clock: u64, t: SdoTransferState, end: u32) -> Action
     ensures { (share : List ℕ) → told_action result share image.now ≡ replies (with_state asked.connection (SdoServerState.SegmentedDownload (record t { offset = end; deadline = Some (deadline_after image.now clock) }))) share image.now asked.transaction [] }
 {
@@ -45,6 +47,7 @@ fn write_segment(asked: Asked, image: &[u8], clock: u64, t: SdoTransferState, en
 }
 
 // A Complete write whose data is stored: the object is written from the share.
+// (The share's front is as long as the transfer says: document 01 has the number in the transfer, and the bytes in the share.)
 fn write_complete(asked: Asked, share: &[u8], image: &mut [u8], t: SdoTransferState) -> Action
     ensures { (clock : ℕ) → told_action result share.now image.new ≡ write_object asked.connection share.now image.old clock asked.transaction (with_state asked.connection SdoServerState.Established) t.index t.sub (take t.total share.now) }
 {
@@ -53,7 +56,8 @@ fn write_complete(asked: Asked, share: &[u8], image: &mut [u8], t: SdoTransferSt
     writes::write_object(asked, next, image, t.index, t.sub, value)
 }
 
-// A Segment or a Complete write: their tests are the same but for one, and `complete` tells them apart.
+// A Segment or a Complete write.
+// (Their tests are the same but for one, and `complete` tells them apart: a function for each would repeat the rest. What is asked, share, image and clock stay four, as `handlers` says why.)
 #[tactic(auto, unfolding(protocol::specs::TransferRecord::write_data, protocol::specs::TransferRecord::download_step, protocol::specs::TransferRecord::write_segment, protocol::specs::TransferRecord::write_complete, picks::specs::Pick::pick))]
 fn write_data(
     asked: Asked,

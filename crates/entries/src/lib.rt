@@ -46,6 +46,7 @@ pub fn is_read_only(e: Entry) -> bool
 }
 
 // The value that an entry holds.
+// (An image and an entry of it, here and below: a receiver and its argument.)
 pub fn value(image: &[u8], e: Entry) -> &[u8]
     ensures { result.now ≡ value_of image.now e }
 {

@@ -122,6 +122,7 @@ fn read_entry(
 }
 
 // ReadByIndex.
+// (What is asked and the payload stay two, here and below: an answer goes to the one, and the other is read once.)
 #[tactic(auto, unfolding(protocol::specs::TransferRecord::read_by_index, protocol::specs::TransferRecord::read_entry, picks::specs::Pick::pick))]
 pub fn read_by_index(
     asked: Asked,
@@ -144,6 +145,7 @@ pub fn read_by_index(
 }
 
 // The client's own segment size, 0 if absent.
+// (0 and no None: the answer holds the number 0 for a size that is absent.)
 #[tactic(auto, unfolding(picks::specs::Pick::pick))]
 fn client_size(payload: &[u8]) -> u16
     ensures { result ≡ pick (ltb (length payload.now) 2) 0 (le (take 2 payload.now)) }

@@ -17,7 +17,7 @@ pub struct Exercise {
 }
 
 // What a call says of the exercise.
-// (A frame may hold any code, and a refusal any number, so both stay numbers.)
+// (A frame may hold any code, and `refused` may be given any number, so both stay numbers.)
 #[derive(Clone, Copy)]
 pub enum Event {
     // A client's opening was answered.
@@ -107,6 +107,8 @@ fn last_event(r: Reading) -> Event
 }
 
 // What an answer says of a reading, given whether it ran before and what it is after.
+// (`ran` is of the reading before, and `r` is the one after: both are there, whichever `ran` says.)
+// (Reading and piece, here and below: a receiver and its argument.)
 fn reading_event(ran: bool, r: Reading, p: Piece) -> Option<Event>
     ensures { result ≡ reading_event ran r p }
 {
@@ -185,6 +187,7 @@ fn with_finish(m: Marks, e: Exercise, length: u32) -> Marks
 }
 
 // The marks after an event. An abort without a code confirms the client's own.
+// (A frame's code may be any number, and where an abort has none it reads as 0.)
 fn after_event(m: Marks, e: Exercise, event: Event) -> Marks
     ensures { result ≡ event_marks e m event }
 {
@@ -227,7 +230,7 @@ fn after_answered(
 }
 
 // The marks after a refused request.
-// (The number is whatever `refused` is given.)
+// (The number is whatever `refused` is given; `asked` is of the request, which has an event of its own where it asks.)
 fn after_refused(m: Marks, e: Exercise, asked: bool, number: u8) -> Marks
     ensures { result ≡ refused_marks m e asked number }
 {

@@ -14,7 +14,7 @@ use crate::{
 };
 
 // The receive mark of a number from 0 to 3, and its number.
-// (A cast goes from a variant to its number and not back, so this and all that read a number below say each variant; one function for the three of four variants would be handed the four, and these are all that they are.)
+// (A cast goes from a variant to its number and not back, so this and all that read a number below say each variant; one function for the three of four variants would be handed the four, and these are all that they are. Two bits of a byte hold the number, and each byte has a variant, so From and no TryFrom.)
 impl From<u8> for ReceiveConnState {
     ghost from_gives = { λ n m. m ≡ receive_mark_of n };
 
@@ -32,8 +32,8 @@ impl From<u8> for ReceiveConnState {
 impl From<ReceiveConnState> for u8 {
     ghost from_gives = { λ m n. n ≡ receive_mark m };
 
-    fn from(mark: ReceiveConnState) -> u8 {
-        mark as u8
+    fn from(receive: ReceiveConnState) -> u8 {
+        receive as u8
     }
 }
 
@@ -55,8 +55,8 @@ impl From<u8> for SendConnState {
 impl From<SendConnState> for u8 {
     ghost from_gives = { λ m n. n ≡ send_mark m };
 
-    fn from(mark: SendConnState) -> u8 {
-        mark as u8
+    fn from(send: SendConnState) -> u8 {
+        send as u8
     }
 }
 

@@ -130,7 +130,7 @@ pub enum SdoClientInfo {
 }
 
 // A transfer, held in the state that runs it. Its bytes are in the client's share of the area.
-// (`stored` is a flag: what it tells of is the bytes before offset, so that no value belongs to it.)
+// (`stored` is a flag, as document 01 has it: what it tells of is the bytes before offset. In a sound upload it goes with deadline and retries, and not in a download, so an Option of the three would be one type for one state.)
 #[derive(Clone, Copy)]
 pub struct SdoTransferState {
     pub transaction: u8, // transaction_id
@@ -153,7 +153,7 @@ pub enum SdoServerState {
 }
 
 // A record of the connection table: the Rust's SdoSequenceHandler with its place in the map.
-// (`used` is a flag: an unused record has a share's number too, and by it the shares stay apart.)
+// (`used` is a flag, as document 01 has it: an unused record has all fields, fresh ones, and its share's number; as an Option of the other four it could not hold what an unsound table holds.)
 #[derive(Clone, Copy)]
 pub struct Connection {
     pub used: bool,
@@ -165,6 +165,7 @@ pub struct Connection {
 }
 
 // An entry of the dictionary image.
+// (Index and sub stand apart here, in a transfer, a reading and an exercise, as in the Rust; a value is a place and a length of the image, since an entry is a value that lends nothing.)
 #[derive(Clone, Copy)]
 pub struct Entry {
     pub place: usize, // where its twelve bytes begin
@@ -195,6 +196,7 @@ pub enum Body {
 }
 
 // What acting on a command leaves of the record, and the answer.
+// (Command and body stand in an action, a piece and a response, as the Rust has a command and its payload in each.)
 #[derive(Clone, Copy)]
 pub struct Action {
     pub connection: Connection,

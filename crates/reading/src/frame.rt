@@ -63,6 +63,7 @@ impl<'a> Seen<'a> {
 }
 
 // The size of the payload that the frame's command announces; 0 without a command.
+// (0 and no None: its callers print it, or ask whether it is below 4.)
 pub fn size(f: Frame) -> u16
     ensures { result ≡ size_in f }
 {

@@ -137,6 +137,7 @@ fn short_piece(q: Frame, c: CommandLayerHeader) -> Piece
 }
 
 // What an answer is to a request.
+// (Two frames, each with bytes of its own: a tick's answer has no request.)
 #[tactic(auto, unfolding(crate::specs::Reading::command_piece, picks::specs::Pick::pick))]
 pub fn piece_of(q: Frame, a: Seen<'_>) -> Piece
     ensures { result ≡ piece_of q a.entry.frame a.entry.bytes.now }
@@ -182,6 +183,7 @@ fn reading_of(client: SdoClientInfo, payload: &[u8]) -> Reading
 }
 
 // The reading that an answer is about: a first piece or a whole value begins one of the object that the request's payload names.
+// (Reading and piece, here and below: a receiver and its argument.)
 fn about(r: Reading, client: SdoClientInfo, p: Piece, payload: &[u8]) -> Reading
     ensures { result ≡ about_of r client p payload.now }
 {

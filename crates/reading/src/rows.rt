@@ -28,6 +28,7 @@ fn free_place(rows: [Reading; 8]) -> Option<usize>
 }
 
 // The place for a client's reading: its own, or a free one.
+// (A row and a place in it, here and below: a receiver and its argument.)
 pub fn place_for(rows: [Reading; 8], own: Option<usize>) -> Option<usize>
     ensures { result ≡ place_for rows own }
 {
@@ -45,14 +46,11 @@ pub fn reading_at(rows: [Reading; 8], place: Option<usize>) -> Reading
 }
 
 // The row with another reading at a place; without one it stays.
-// (One test and one store: a function for rows of any type would have both, and its callers its type.)
 pub fn with_reading(mut rows: [Reading; 8], place: Option<usize>, r: Reading) -> [Reading; 8]
     ensures { result ≡ with_reading rows place r }
 {
-    if let Some(i) = place
-        && i < rows.len()
-    {
-        rows[i] = r;
+    if let Some(i) = place {
+        octets::store_at(&mut rows, i, r);
     }
     rows
 }

@@ -16,6 +16,7 @@ pub fn next_number(n: u8) -> u8
 }
 
 // A byte of the header: six bits of a number above two of a mark.
+// (The mark comes as its number: receive and send marks are two enums.)
 fn octet(number: u8, mark: u8) -> u8
     requires { mark < 4 }
     ensures { result ≡ number % 64 * 4 + mark }
@@ -24,6 +25,7 @@ fn octet(number: u8, mark: u8) -> u8
 }
 
 // Writes the header at the start of the buffer, whose other bytes stay. A buffer under four bytes stays whole.
+// (It answers how many bytes it wrote, as the Rust does: the buffer is the caller's.)
 #[tactic(auto, unfolding(protocol::specs::SequenceHeader::encode_header, picks::specs::Pick::pick))]
 pub fn serialize(h: SequenceLayerHeader, buffer: &mut [u8]) -> Result<usize, BufferTooShort>
     ensures told { told_written result ≡ written (encode_header h) buffer.old }

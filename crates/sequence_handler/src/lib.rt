@@ -48,6 +48,7 @@ fn may_be_empty(s: SdoServerState, mark: SendConnState) -> bool
 }
 
 // What is left of a record whose request is answered.
+// (This and `refused` are of one shape with `stepped` and `misfit` of `sequence_layer`: a struct of two fields, each with an equation of its own.)
 fn answered(connection: Connection, r: SdoResponseData) -> Handled
     ensures { (share image : List ℕ) → told_handled result share image ≡ record { connection = connection; share = share; image = image; said = value (told_reply r share image) } }
 {

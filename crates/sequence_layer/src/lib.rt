@@ -7,7 +7,7 @@ ghost use Rattle.protocol.specs.ConnectionRecord.{told_step, stepped, misfit, to
 
 use protocol::{
     Connection, Left, Misfit, Piece, ReceiveConnState, SdoResponseData, SdoServerState,
-    SdoTransferState, SendConnState, SequenceLayerHeader,
+    SdoTransferState, SendConnState, SequenceLayerHeader, Step,
 };
 
 // Before the sequence step: receive mark 3 in an upload with a stored piece resends it, under send mark 3.
@@ -54,10 +54,8 @@ pub fn answer_marked(c: Connection) -> SequenceLayerHeader
 }
 
 // A frame that fits: the record after it, and the answer's header so far.
-fn stepped(
-    connection: Connection,
-    header: SequenceLayerHeader,
-) -> Left<Result<SequenceLayerHeader, Misfit>>
+// (`sequence_handler` says of one shape with this and `misfit` what is left of a request.)
+fn stepped(connection: Connection, header: SequenceLayerHeader) -> Step
     ensures { told_step result ≡ stepped connection header }
 {
     Left {
@@ -67,7 +65,7 @@ fn stepped(
 }
 
 // A frame that does not fit.
-fn misfit(connection: Connection) -> Left<Result<SequenceLayerHeader, Misfit>>
+fn misfit(connection: Connection) -> Step
     ensures { told_step result ≡ misfit connection }
 {
     Left {
@@ -79,7 +77,7 @@ fn misfit(connection: Connection) -> Left<Result<SequenceLayerHeader, Misfit>>
 // A Closed client's frame.
 // (Both headers are written out: they have one field in common, and at most one with `answer_marked`.)
 #[tactic(auto, unfolding(protocol::specs::ConnectionRecord::closed_step, picks::specs::Pick::pick))]
-fn closed_step(c: Connection, h: SequenceLayerHeader) -> Left<Result<SequenceLayerHeader, Misfit>>
+fn closed_step(c: Connection, h: SequenceLayerHeader) -> Step
     ensures { told_step result ≡ closed_step c h }
 {
     if h.scon == SendConnState::Initialization {
@@ -102,7 +100,7 @@ fn closed_step(c: Connection, h: SequenceLayerHeader) -> Left<Result<SequenceLay
 
 // A frame in Opening: any send number ends the handshake.
 #[tactic(auto, unfolding(protocol::specs::ConnectionRecord::opening_step, picks::specs::Pick::pick))]
-fn opening_step(c: Connection, h: SequenceLayerHeader) -> Left<Result<SequenceLayerHeader, Misfit>>
+fn opening_step(c: Connection, h: SequenceLayerHeader) -> Step
     ensures { told_step result ≡ opening_step c h }
 {
     if ends_handshake(c, h) {
@@ -149,7 +147,7 @@ fn acknowledge(ours: bool, s: SdoServerState) -> SdoServerState
 
 // A frame in a later state: a repeat, the next number, or neither.
 #[tactic(auto, unfolding(protocol::specs::ConnectionRecord::later_step, picks::specs::Pick::pick))]
-fn later_step(c: Connection, h: SequenceLayerHeader) -> Left<Result<SequenceLayerHeader, Misfit>>
+fn later_step(c: Connection, h: SequenceLayerHeader) -> Step
     ensures { told_step result ≡ later_step c h }
 {
     if h.send == c.receive {
@@ -165,10 +163,7 @@ fn later_step(c: Connection, h: SequenceLayerHeader) -> Left<Result<SequenceLaye
 
 // The sequence step.
 #[tactic(auto, unfolding(protocol::specs::ConnectionRecord::sequence_step, protocol::specs::ConnectionRecord::step_in))]
-pub fn sequence_step(
-    c: Connection,
-    h: SequenceLayerHeader,
-) -> Left<Result<SequenceLayerHeader, Misfit>>
+pub fn sequence_step(c: Connection, h: SequenceLayerHeader) -> Step
     ensures { told_step result ≡ sequence_step c h }
 {
     match c.state {

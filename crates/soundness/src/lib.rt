@@ -15,7 +15,7 @@ const CAPACITY_MAX: u16 = 8192;
 const FLAGS_MAX: u8 = 3;
 
 // The entry at a place, all of it within the image.
-// (Entry.place is a number of the whole image, so the part of twelve bytes alone would not do.)
+// (`entries::entry_at` takes any place, and reads 0 behind the image's end; here the twelve bytes are there, and the slice of them says so.)
 fn entry_in(image: &[u8], at: usize) -> Entry
     requires { at + 12 ≤ length image.now }
     ensures { result ≡ entry_at image.now at }
@@ -24,7 +24,8 @@ fn entry_in(image: &[u8], at: usize) -> Entry
     entries::entry_in(at, &image[at..end])
 }
 
-// The number that entries are ordered by: no pair, since the least key that may follow is one more.
+// The number that entries are ordered by.
+// (No pair: the least key that may follow is one more.)
 fn key_of(e: Entry) -> u32
     ensures { result ≡ key e }
 {

@@ -31,6 +31,7 @@ pub fn with_state(c: Connection, s: SdoServerState) -> Connection
 }
 
 // The length of the piece at an offset.
+// (Total and offset are two of a transfer's eight fields, and all that a piece rests on; a struct of them would be a type beside document 01's.)
 // (One line of the library's: what it is the lesser of is all that it says.)
 #[tactic(auto, unfolding(protocol::specs::Constants::PIECE))]
 pub fn piece_length(total: u32, offset: u32) -> u32

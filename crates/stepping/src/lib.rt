@@ -20,6 +20,7 @@ pub fn step_record(
 }
 
 // The sequence step on a record by value, which is lent to step_record and taken back.
+// (`sequence_layer::sequence_step` has this clause too: here the record is lent, so that a lent record is changed on the path of every request.)
 pub fn sequence_step(c: Connection, h: SequenceLayerHeader) -> Step
     ensures { told_step result ≡ sequence_step c h }
 {

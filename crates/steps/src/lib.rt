@@ -254,6 +254,7 @@ impl fmt::Display for Range {
 }
 
 // A piece of a length, once it is sent. Without a size its reading began where the recording does not show it.
+// (A reading's total is a public number, and 0 is that of one whose beginning was not seen.)
 #[derive(Clone, Copy)]
 struct Part<'a> {
     what: &'a str,
@@ -332,6 +333,7 @@ fn taken_by(request: Frame) -> &'static str
 }
 
 // An answer that is no piece of an upload and no abort.
+// (Two frames, each with bytes of its own: a tick's answer has no request.)
 #[tactic(auto, unfolding(show::specs::Text::letters, picks::specs::Pick::pick, crate::specs::Steps::replied_text))]
 fn other(request: Frame, answer: Frame) -> &'static str
     ensures { result.now ≡ other_text request answer }

@@ -46,7 +46,7 @@ pub fn sound_download(t: SdoTransferState) -> bool
 }
 
 // Whether the transfer of a state is sound.
-// (`packed` asks a record's bytes, and has a transfer made of them only where their state has one.)
+// (`records` asks a record's bytes, and has a transfer made of them only where their state has one.)
 fn sound_state(s: SdoServerState) -> bool
     ensures { result ≡ sound_state s }
 {
@@ -66,7 +66,7 @@ pub fn sound_record(c: Connection) -> bool
 }
 
 // When the transfer of a state is due.
-// (`packed` reads a deadline's bytes alone, with no transfer made.)
+// (`records` reads a deadline's bytes alone, with no transfer made.)
 fn transfer_deadline(s: SdoServerState) -> Option<u64>
     ensures { result ≡ transfer_deadline s }
 {

@@ -185,7 +185,7 @@ fn name_of(id: CommandId) -> &'static str
 }
 
 // The word of a sequence header's receive mark.
-// (Three enums, and each case of each has a word of its own: they share no line but the match.)
+// (Three enums, of which the two marks share three words of four: a function for both would be told a mark as a number.)
 #[tactic(auto, unfolding(show::specs::Text::letters, show::specs::Text::entry))]
 fn received(mark: ReceiveConnState) -> &'static str
     ensures { result.now ≡ entry (receive_mark mark) receive_marks }
@@ -248,6 +248,7 @@ fn segmentation_of(segmentation: Segmentation) -> &'static str
 }
 
 // A word where a flag is set.
+// (Each caller has a flag of the header and one word for it: an Option of the word would be made by this very test.)
 #[tactic(auto, unfolding(picks::specs::Pick::pick))]
 fn flagged(flag: bool, word: &str) -> &str
     ensures { result.now ≡ pick flag word.now [] }

@@ -90,7 +90,7 @@ pub fn put_abort(page: &mut [u8], at: usize, code: u32) -> usize
 }
 
 // A refusal's number and its meaning.
-// (A recording may hold any number here, so it stays a number.)
+// (A caller may give any number, so it stays a number.)
 #[tactic(auto, unfolding(show::specs::Text::letters, template::specs::Filled::filled, template::specs::Filled::letter_text, template::specs::Filled::taken, picks::specs::Pick::pick, crate::specs::Words::refusal_text), using(show::proofs::Laid::laid_laid))]
 pub fn put_refusal(page: &mut [u8], at: usize, number: u8) -> usize
     ensures { page_at result page.new ≡ laid (page_at at page.old) (refusal_text number) }
