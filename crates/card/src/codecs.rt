@@ -90,6 +90,7 @@ impl<P: Print> Card<'_, P> {
     }
 
     // A command is decoded to its fields and payload; an undecodable one to its transaction id.
+    // (The cursor tells how many bytes of its array are written: without a heap there is none of that length.)
     fn command_read_row(&mut self, row: Row) -> io::Result<()> {
         let mut buffer = [0; 32];
         let bytes = rows::read(row.given, &mut buffer);

@@ -176,6 +176,7 @@ fn command_of(item: &[u8]) -> Option<SdoCommand> {
 }
 
 // Item 4: a command is encoded into a buffer of n bytes.
+// (The front of an array, as in item 2.)
 fn command_encode(c: SdoCommand, payload: &[u8], n: u16, out: &mut impl Write) -> io::Result<()> {
     let mut space = [FILL; 4096];
     let buffer = &mut space[..usize::from(n.min(MAX_BUFFER))];

@@ -25,7 +25,7 @@ pub trait Table {
     // The table that is made of records.
     ghost made: { List Connection → Self };
 
-    // The records that a call reads. They are those of no sound table where the table holds none, or where `known` is no since the client is of no kind: such a call is refused as one on a table that is not sound.
+    // The records that a call reads. They are those of no sound table where the table holds none, or where `known` is false, that is where the client is of no kind: such a call is refused as one on a table that is not sound.
     ghost read: { Bool → Self → List Connection };
 
     // Where they are sound, they are those that the table holds.

@@ -47,6 +47,7 @@ impl TryFrom<u8> for Item {
 }
 
 // The image's length in item 4. One above its limit counts as 0: no image is waited for, and the item is unknown.
+// (0 and no None: how long an item is is a number for every item.)
 #[tactic(auto, unfolding(picks::specs::Pick::pick))]
 fn image_length(item: &[u8]) -> usize
     ensures value { result ≡ pick (is_image item.now) (number_at 4 1 item.now) 0 }

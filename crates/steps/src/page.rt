@@ -129,6 +129,7 @@ fn put_range(page: &mut [u8], at: usize, r: Reading, n: usize) -> usize
 }
 
 // A piece of n bytes, once it is sent. Without a size its reading began where the recording does not show it.
+// (A reading's total is a public number, and 0 is that of one whose beginning was not seen.)
 #[tactic(auto, unfolding(show::specs::Text::letters, picks::specs::Pick::pick, crate::specs::Steps::piece_text), using(show::proofs::Laid::laid_laid))]
 fn put_piece(page: &mut [u8], at: usize, what: &[u8], r: Reading, n: usize) -> usize
     ensures { page_at result page.new ≡ laid (page_at at page.old) (piece_text what.now r n) }
