@@ -2,6 +2,7 @@
 #![tactic(auto)]
 
 pub mod frame;
+pub mod numbers;
 pub mod rows;
 
 ghost use Rattle.std.specs.Prelude.{◌≡◌, ◌+◌, ◌-◌, min, length, fold};
