@@ -4,6 +4,8 @@
 ghost use Rattle.std.specs.Prelude.{◌≡◌};
 ghost use Rattle.marking.specs.Marks.{asks_of, last_event, reading_event, piece_event, denial_event, denied, with_piece, with_finish, event_marks, marks_after, answered_marks, refused_marks, unmarked_of, denial_mark, unfinished_mark, mark_of, empty_book, anew_book, opens_in, answered_book, refused_book};
 
+pub mod numbers;
+
 use protocol::{ReceiveConnState, SdoClientInfo, SendConnState};
 use reading::frame::{Frame, Seen};
 use reading::{Piece, Reading, frame, rows};
