@@ -8,6 +8,7 @@ ghost use Rattle.protocol.specs.Command.{id_byte, segmentation_number};
 ghost use Rattle.show.specs.Text.{entry};
 ghost use Rattle.wording.specs.Words.{clock_text, mac_text, client_text, code_text, object_text, meaning, abort_text, refusals, refusal_text, id_text, receive_marks, send_marks, header_text, segmentations, kind_text, total_text, command_text, decoded_text, frame_text};
 
+pub mod numbers;
 mod page;
 
 pub use page::{put_abort, put_client, put_clock, put_code, put_frame, put_object, put_refusal};
