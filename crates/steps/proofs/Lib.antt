@@ -1,2 +1,3 @@
 pub mod Ids
 pub mod Templates
+pub mod Same

@@ -7,6 +7,7 @@ ghost use Rattle.reading.specs.Frame.{size_in};
 ghost use Rattle.show.specs.Text.{entry};
 ghost use Rattle.steps.specs.Steps.{empty_text, named_text, amount_of, written_text, writes, write_text, looked_text, own_abort_text, opening_text, acted_text, asked_text, request_text, range_text, piece_text, whole_text, taken_text, taken_by, other_text, aborted_text, answer_text};
 
+pub mod numbers;
 mod page;
 
 pub use page::{put_answer, put_request};

@@ -12,7 +12,7 @@ use reading::{Piece, Reading, frame};
 
 // The object that a payload names, where it does.
 #[tactic(auto, unfolding(show::specs::Text::letters, picks::specs::Pick::pick, crate::specs::Steps::named_text))]
-fn put_named(page: &mut [u8], at: usize, payload: &[u8]) -> usize
+pub(crate) fn put_named(page: &mut [u8], at: usize, payload: &[u8]) -> usize
     ensures { page_at result page.new ≡ laid (page_at at page.old) (named_text payload.now) }
 {
     if payload.len() < 4 {
@@ -64,7 +64,7 @@ fn put_looked(page: &mut [u8], at: usize, sent: Sent<'_>) -> usize
 
 // The client's own abort, with its code where it has one.
 #[tactic(auto, unfolding(show::specs::Text::letters, picks::specs::Pick::pick, crate::specs::Steps::own_abort_text, crate::specs::Steps::coded), using(show::proofs::Laid::laid_laid))]
-fn put_own_abort(page: &mut [u8], at: usize, payload: &[u8]) -> usize
+pub(crate) fn put_own_abort(page: &mut [u8], at: usize, payload: &[u8]) -> usize
     ensures { page_at result page.new ≡ laid (page_at at page.old) (own_abort_text payload.now) }
 {
     if payload.len() < 4 {
@@ -131,7 +131,7 @@ fn put_range(page: &mut [u8], at: usize, r: Reading, n: usize) -> usize
 // A piece of n bytes, once it is sent. Without a size its reading began where the recording does not show it.
 // (A reading's total is a public number, and 0 is that of one whose beginning was not seen.)
 #[tactic(auto, unfolding(show::specs::Text::letters, picks::specs::Pick::pick, crate::specs::Steps::piece_text), using(show::proofs::Laid::laid_laid))]
-fn put_piece(page: &mut [u8], at: usize, what: &[u8], r: Reading, n: usize) -> usize
+pub(crate) fn put_piece(page: &mut [u8], at: usize, what: &[u8], r: Reading, n: usize) -> usize
     ensures { page_at result page.new ≡ laid (page_at at page.old) (piece_text what.now r n) }
 {
     let at = show::put(page, at, what);
@@ -145,7 +145,7 @@ fn put_piece(page: &mut [u8], at: usize, what: &[u8], r: Reading, n: usize) -> u
 
 // A value that is sent whole.
 #[tactic(auto, unfolding(show::specs::Text::letters, crate::specs::Steps::whole_text), using(show::proofs::Laid::laid_laid))]
-fn put_whole(page: &mut [u8], at: usize, r: Reading) -> usize
+pub(crate) fn put_whole(page: &mut [u8], at: usize, r: Reading) -> usize
     ensures { page_at result page.new ≡ laid (page_at at page.old) (whole_text r) }
 {
     let at = show::put(page, at, b"the whole value of ");
