@@ -1,7 +1,7 @@
 // A frame as numbers, of which each may be any, laid on a page in the same words: a mark or a segmentation above 3 has no word, and an id that is none is Nil.
 // (`put_frame` of the crate is told what bytes decode to, and no other frame. Here a caller may put any number; the words are the crate's.)
-ghost use Rattle.std.specs.Prelude.{◌≡◌, ◌++◌};
-ghost use Rattle.show.specs.Text.{page_at, laid, entry, decimal_text};
+ghost use Rattle.std.specs.Prelude.{◌≡◌};
+ghost use Rattle.show.specs.Text.{page_at, laid, entry};
 ghost use Rattle.wording.specs.Words.{id_text, receive_marks, send_marks, segmentations};
 ghost use Rattle.wording.specs.Numbers.{header_text, kind_text, total_text, command_text, decoded_text, frame_text};
 
