@@ -3,7 +3,7 @@ use Prim.Native.Nat.{ℕ, zero, suc, ◌+◌, ◌*◌, ◌/◌, ◌%◌, ◌^◌
 use native.Mathlib.Omega.{arith}
 use native.Mathlib.Nat.{pow-suc, pow-succ', mul_assoc, zero-add, suc-add, mul-pos, div-div-eq-div-mul, div-one, mod-one, mod-eq_of_lt}
 use mathlib.Core.Path.{◌≡◌, refl, sym, ap, ◌∙◌}
-use mathlib.Core.List.{List, [], ◌∷◌}
+use mathlib.Core.List.{List, [], ◌∷◌, ◌++◌}
 use lib.ListN.{length, take, drop, get_or, replicate}
 use lib.Seq.{take-nil, take_all}
 use lib.Dec.{lit<}
@@ -20,6 +20,12 @@ carry x p n r = omega (arith, mul_assoc 256 (256 ^ n) r, ap (λ (k : ℕ). k * r
 pub pow_pos : (n : ℕ) → 0 < 256 ^ n
 pow_pos zero = lit< tt
 pow_pos (suc n) = rw (pow-suc 256 n) (mul-pos (pow_pos n) (lit< tt))
+
+-- the number of two lists, one behind the other
+pub le_append : (a b : List ℕ) → le (a ++ b) ≡ le a + 256 ^ length a * le b
+unfolding le
+le_append [] b = omega arith
+le_append (x ∷ a) b = rw (le_append a b) (carry x (le a) (length a) (le b))
 
 -- a number of n + m bytes is one of n and one of m
 pub le_split : (n m : ℕ) (xs : List ℕ) → le (take (n + m) xs) ≡ le (take n xs) + 256 ^ n * le (take m (drop n xs))

@@ -138,6 +138,12 @@ splice_after a at ys xs =
     let s = splice (a + at) ys xs in
     rw (← take_before a (a + at) ys xs (omega arith), ← drop_splice a at ys xs) (take-append-drop a s)
 
+-- a store within the part of k from a on, said of the whole
+pub splice_part : (a k at : ℕ) (ys xs : List ℕ) → at + length ys ≤ k → take a xs ++ (splice at ys (take k (drop a xs)) ++ drop k (drop a xs)) ≡ splice (a + at) ys xs
+splice_part a k at ys xs h =
+    let d = drop a xs in
+    rw (← take_splice k at ys d, ← drop_behind k at ys d h, take-append-drop k (splice at ys d)) (splice_after a at ys xs)
+
 -- a part of k from a on that is stored as a whole, said of the whole
 pub store_part : (a k : ℕ) (zs xs : List ℕ) → length zs ≡ k → a + k ≤ length xs → take a xs ++ (zs ++ drop k (drop a xs)) ≡ splice a zs xs
 store_part a k zs xs e h = rw (← e, drop-drop, ← append_assoc) (sym (splice_fits a zs xs (rw e h)))

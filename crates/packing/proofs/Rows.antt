@@ -53,7 +53,7 @@ pasted k n x t h g =
     rw (table_take n x g, splice_fits (40 * k) y (table_bytes t) f, e, table_take k t (omega arith), table_drop (k + n) t h, table_append (take k t ++ take n x) (drop (k + n) t), table_append (take k t) (take n x))
 
 -- one record over another
-placed : (i : ℕ) (c : Connection) (t : List Connection) → i < length t → splice (40 * i) (record_bytes c) (table_bytes t) ≡ table_bytes (set t i c)
+pub placed : (i : ℕ) (c : Connection) (t : List Connection) → i < length t → splice (40 * i) (record_bytes c) (table_bytes t) ≡ table_bytes (set t i c)
 unfolding table_bytes
 placed i c t h =
     let b = record_bytes c in

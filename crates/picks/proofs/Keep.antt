@@ -119,6 +119,9 @@ module _ {A : Type 0} (f : A → Bool) where
       let p = of_both (not (f x)) (every (λ y. not (f y)) xs) e in
       rw (keep_no x xs (not-true (f x) p.0)) (keep_none xs p.1)
 
+  pub keep_again : (xs : List A) → keep f (keep f xs) ≡ keep f xs
+  keep_again xs = keep_all (keep f xs) (every_kept xs)
+
   pub count_none : (xs : List A) → every (λ x. not (f x)) xs ≡ true → count f xs ≡ 0
   count_none xs e = sym (length_keep xs) ∙ ap length (keep_none xs e)
 

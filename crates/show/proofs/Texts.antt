@@ -7,16 +7,22 @@ use mathlib.Core.Bool.{Bool, true, false, not, cond}
 use Prim.Native.String.{String}
 use mathlib.Core.List.{List, [], ◌∷◌, ◌++◌, append_assoc, append-nil}
 use lib.Dec.{ltb, eqb}
-use lib.ListN.{length, take, drop, get_or, length-append}
+use lib.ListN.{length, take, drop, get_or, set, length-set, length-append}
 use Rattle.std.specs.List.{position, position_or_len, slice_split, onto_first}
 use Rattle.std.specs.Prelude.{Option}
 use Rattle.std.specs.Option.{unwrap_or}
 use Rattle.std.proofs.lemmas.List.{take_more}
-use lib.Seq.{append_snoc, take-append_seam, drop_at}
+use lib.Seq.{drop-cons, get_or-set_same, drop-set-lt, append_snoc, take-append_seam, drop_at}
 use borrow.Author.Tests.{ltb-false, lt-ltb, not-true}
 use Rattle.picks.specs.Pick.{pick, first, every}
 use Rattle.picks.proofs.Keep.{left, right, first_le}
 use Rattle.show.specs.Text.{letters, hex_text, decimal, bytes_text, until_mark, line_of, behind_mark, tabled, entry}
+
+-- a place of a list after a store there
+pub stored_at : (xs : List ℕ) (i v : ℕ) → i < length xs → drop i (set xs i v) ≡ v ∷ drop (suc i) xs
+stored_at xs i v h =
+    let l : i < length (set xs i v) = rw length-set h in
+    rw (drop-cons (set xs i v) i 0 l, get_or-set_same xs i v 0 h, drop-set-lt (suc i) xs i v (omega arith))
 
 -- the bytes so far, and one more
 bytes_append : (a b : List ℕ) → bytes_text (a ++ b) ≡ bytes_text a ++ bytes_text b

@@ -4,13 +4,13 @@ use native.Mathlib.Omega.{arith}
 use mathlib.Core.Path.{◌≡◌, refl, sym, ap, ◌∙◌}
 use mathlib.Core.Bool.{Bool, true, false, ◌&&◌, not}
 use mathlib.Core.List.{List, [], ◌∷◌, ◌++◌, map, append_assoc, append-nil}
-use lib.ListN.{length, get_or, take, drop, take-append-drop}
+use lib.ListN.{length, get_or, set, take, drop, take-append-drop}
 use lib.Seq.{drop-cons}
 use lib.Dec.{ltb}
 use borrow.Author.Tests.{lt-ltb, le-ltb, ltb-true, ltb-false, not-true}
 use Rattle.picks.specs.Pick.{pick, first, every, count, keep}
 use Rattle.picks.proofs.Picks.{pick_t, pick_f}
-use Rattle.picks.proofs.Keep.{by_test, not_both, both, of_both, of_every, every_append, every_keep, keep_append, keep_yes, keep_no, keep_all, keep_none, count_append, count_yes, count_no, first_yes, first_no, first_at, first_out, count_none}
+use Rattle.picks.proofs.Keep.{by_test, not_both, both, of_both, of_every, every_cons, every_append, every_keep, keep_append, keep_yes, keep_no, keep_all, keep_none, count_append, count_yes, count_no, first_yes, first_no, first_at, first_out, count_none, every_set, every_at}
 use Rattle.protocol.specs.declared.SdoClientInfo.{SdoClientInfo}
 use Rattle.protocol.specs.declared.Connection.{Connection}
 use Rattle.protocol.specs.ConnectionTable.{fresh, is_used, is_unused, used_of, unused_of, is_closed, holds, place_of, release}
@@ -197,3 +197,16 @@ gone_used r k = (of_both r.used (is_closed r.state) k).0
 
 pub release_closed : (n : ℕ) (t : List Connection) → used_first t ≡ true → length t ≤ n → release (λ r. r.used && is_closed r.state) t ≡ drops_first n is_gone t
 release_closed n t e h = sym (drops_release is_gone gone_used n t e (omega (arith, count_most is_gone t)))
+
+-- a record put in place of one that is used where it is keeps used records first
+pub set_used_first : (t : List Connection) (i : ℕ) (r d : Connection) → used_first t ≡ true → i < length t → r.used ≡ (get_or t i d).used → used_first (set t i r) ≡ true
+set_used_first [] i r d e h u = absurd (omega arith)
+set_used_first (x ∷ xs) zero r d e h u =
+    by_test x.used
+    (λ v. used_made r xs (u ∙ v) (used_then x xs v e))
+    (λ v. unused_made (r ∷ xs) (every_cons is_unused r xs (ap not (u ∙ v)) (of_every is_unused x xs (unused_then x xs v e)).1))
+set_used_first (x ∷ xs) (suc i) r d e h u =
+    by_test x.used
+    (λ v. used_made x (set xs i r) v (set_used_first xs i r d (used_then x xs v e) (omega arith) u))
+    (λ v. let n = unused_then x xs v e in
+    unused_made (x ∷ set xs i r) (every_set is_unused (x ∷ xs) (suc i) r n (ap not u ∙ every_at is_unused (x ∷ xs) (suc i) d n h)))
