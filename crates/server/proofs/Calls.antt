@@ -1,10 +1,12 @@
 -- A request and a tick that passed the tests, and the query: what the code's parts give together.
-use Prim.Native.Nat.{ℕ, ◌+◌, ◌*◌, ◌≤◌}
+use Prim.Native.Nat.{ℕ, ◌+◌, ◌*◌, ◌≤◌, ◌<◌}
 use native.Mathlib.Omega.{arith}
-use mathlib.Core.Bool.{true, false}
+use mathlib.Core.Bool.{Bool, true, false, not, ◌&&◌}
 use mathlib.Core.Path.{◌≡◌, refl, sym, ap, ◌∙◌}
 use mathlib.Core.List.{List}
 use lib.ListN.{length, get_or, set}
+use lib.Dec.{eqb}
+use borrow.Author.Tests.{ne_eqb}
 use Rattle.picks.specs.Pick.{pick}
 use Rattle.protocol.specs.declared.SdoClientInfo.{SdoClientInfo}
 use Rattle.protocol.specs.declared.Connection.{Connection}
@@ -24,6 +26,11 @@ use Rattle.protocol.proofs.Ticks.{TickAccepted, answered_there, answered_used, l
 -- calls that agree in all that they return and leave
 pub same_called : {A : Type 0} {r r' : Answer A} {a a' : List ℕ} {t t' : List Connection} {b b' : List ℕ} (image : List ℕ) → r ≡ r' → a ≡ a' → t ≡ t' → b ≡ b' → ◌≡◌ {A = Called A} (record { returned = r; answer = a; table = t; area = b; image = image }) (record { returned = r'; answer = a'; table = t'; area = b'; image = image })
 same_called image e f g h = rw (e, f, g, h)
+
+-- a client without a record has a seat
+pub free_seat : (k : Bool) (n : ℕ) → (k ≡ false → 0 < n) → (not k && eqb n 0) ≡ false
+free_seat true n f = refl
+free_seat false n f = ne_eqb n 0 (λ e. let h = f refl in omega arith)
 
 module _ (client : SdoClientInfo) (clock : ℕ) (request image answer : List ℕ) (table : List Connection) (area : List ℕ) where
   abbrev pub served_on : Connection → Served
