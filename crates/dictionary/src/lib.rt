@@ -4,7 +4,7 @@
 ghost use Rattle.std.specs.Prelude.{◌≡◌, ℕ, ◌+◌, ◌*◌, ◌≤◌, ◌<◌, min, Bool, false, ◌&&◌, length, Err};
 ghost use Rattle.std.specs.List.{position_or_len};
 ghost use Rattle.dictionary.specs.Skipping.{is_near, is_near_four, lookup_from};
-ghost use Rattle.protocol.specs.DictionaryImage.{entry_count, lookup, parameter_of, timeout_of, retries_of};
+ghost use Rattle.protocol.specs.DictionaryImage.{entry_at, entry_count, lookup, parameter_of, timeout_of, retries_of};
 
 use protocol::{Entry, LookupError};
 
@@ -47,6 +47,27 @@ fn is_near_four(four: &[u8; 48], low: u16, high: u16) -> bool
     entries.iter().any(|entry| is_near(entry, low, high))
 }
 
+// What a look-up compares of an entry.
+#[derive(Clone, Copy)]
+struct Key {
+    index: u16,
+    sub: u8,
+}
+
+// The index and the sub-index of the entry at a place, without the rest of it.
+// (An object may have 254 sub-indices: with a whole entry made of each that is passed, a request takes twice as long.)
+#[tactic(auto, unfolding(protocol::specs::DictionaryImage::entry_at))]
+fn key_at(image: &[u8], at: usize) -> Key
+    requires { at ≤ 786422 }
+    ensures index { result.index ≡ (entry_at image.now at).index }
+    ensures sub { result.sub ≡ (entry_at image.now at).sub }
+{
+    Key {
+        index: octets::number_at(image, at),
+        sub: octets::byte_at(image, at + 2),
+    }
+}
+
 // How many fours of entries come before the first with an index of a range.
 fn count_far(fours: &[[u8; 48]], low: u16, high: u16) -> usize
     ensures first { result ≡ position_or_len (is_near_four low high) fours.now }
@@ -87,20 +108,21 @@ impl<'a> Entries<'a> {
     }
 
     // What the entries from a position on say of an index and sub-index. Behind the end all entries are alike, so that one is enough.
+    // (Behind an entry of the index that is asked another may stand, so that nothing is skipped there.)
     fn lookup_from(self, from: usize, index: u16, sub: u8) -> Result<Entry, LookupError>
         ensures { result ≡ lookup_from self.entry.image.now self.entry.n from index sub false }
     {
         let Entries { image, n } = self;
         let mut missing = LookupError::NoObject;
         let mut i = from;
-        // No `for`: a turn begins with a skip of any length.
+        // No `for`: a turn ends with a skip of any length.
         while i < n as usize {
-            i = self.skip(i, index, index);
             let at = 2 + 12 * i;
-            let e = entries::entry_at(image, at);
-            if e.index == index {
+            let e = key_at(image, at);
+            let here = e.index == index;
+            if here {
                 if e.sub == sub {
-                    return Ok(e);
+                    return Ok(entries::entry_at(image, at));
                 }
                 missing = LookupError::NoSubIndex;
             }
@@ -108,6 +130,9 @@ impl<'a> Entries<'a> {
                 return Err(missing);
             }
             i += 1;
+            if !here {
+                i = self.skip(i, index, index);
+            }
         }
         Err(missing)
     }
