@@ -3,15 +3,15 @@ use Prim.Native.Nat.{ℕ, zero, suc, ◌+◌, ◌<◌, ◌≤◌}
 use native.Mathlib.Omega.{arith}
 use mathlib.Core.Path.{◌≡◌, refl, sym, ap, ◌∙◌}
 use mathlib.Core.Bool.{Bool, true, false, cond, not, ◌&&◌, ◌||◌}
-use mathlib.Core.List.{List, [], ◌∷◌, map}
+use mathlib.Core.List.{List, [], ◌∷◌, ◌++◌, map}
 use lib.ListN.{length, length-map, get_or, take}
-use Rattle.std.specs.Prelude.{Option, position, min}
+use Rattle.std.specs.Prelude.{Option, None, position, min}
 use Rattle.std.specs.List.{list_all, prefix_len, filter_map, cons_option, reduce, IsAllAdjacentAnswer}
 use Rattle.std.proofs.lemmas.List.{get_or_past}
-use Rattle.picks.specs.Pick.{every}
+use Rattle.picks.specs.Pick.{every, fold}
 use Rattle.picks.proofs.Keep.{by_test, every_follows}
 use Rattle.protocol.specs.declared.Connection.{Connection}
-use Rattle.protocol.specs.ConnectionTable.{is_fresh, ordered, sound_record, deadline_of, earliest}
+use Rattle.protocol.specs.ConnectionTable.{is_fresh, ordered, sound_record, deadline_of, earlier, earliest}
 use Rattle.protocol.proofs.ConnectionTable.{fresh_eq, unused_first, ordered_rest}
 use Rattle.connection.specs.Among.{follows}
 use Rattle.row.proofs.Walk.{least_earliest}
@@ -22,6 +22,22 @@ unfolding sound_record
 fresh_sound r e = ap sound_record (fresh_eq r e)
 
 module _ {R : Type 0} (value : R → Connection) where
+  -- the earliest deadline of the first records, and of one more
+  abbrev pub earliest_in : Option ℕ → List R → Option ℕ
+  earliest_in d xs = fold (λ e r. earlier e (deadline_of r)) d (map value xs)
+
+  pub earliest_none : None ≡ earliest_in None []
+  unfolding fold
+  earliest_none = refl
+
+  earliest_then : (d : Option ℕ) (xs : List R) (x : R) → earliest_in d (xs ++ x ∷ []) ≡ earlier (earliest_in d xs) (deadline_of (value x))
+  unfolding fold
+  earliest_then d [] x = refl
+  earliest_then d (y ∷ ys) x = earliest_then (earlier d (deadline_of (value y))) ys x
+
+  pub earliest_more : (xs : List R) (x : R) (a b : Option ℕ) → a ≡ earliest_in None xs → b ≡ earlier a (deadline_of (value x)) → b ≡ earliest_in None (xs ++ x ∷ [])
+  earliest_more xs x a b j k = k ∙ ap (λ e. earlier e (deadline_of (value x))) j ∙ sym (earliest_then None xs x)
+
   -- the record at a place
   pub map_at : (xs : List R) (i : ℕ) (d : Connection) (e : R) → i < length xs → get_or (map value xs) i d ≡ value (get_or xs i e)
   map_at [] i d e h = absurd (omega arith)

@@ -183,7 +183,8 @@ pub fn seat_place<R: Record>(rows: &[R], client: SdoClientInfo) -> Option<usize>
 pub fn earliest<R: Record>(rows: &[R]) -> Option<u64>
     ensures { result ≡ earliest (R.values rows.now) }
 {
-    rows.iter().filter_map(|r| r.deadline()).min()
+    rows.iter()
+        .fold(None, |d, r| transfers::earlier(d, r.deadline()))
 }
 
 // The area number of the record at a place; 0 past the end, as a fresh record has it.

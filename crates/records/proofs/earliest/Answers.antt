@@ -1,14 +1,14 @@
--- The least of the deadlines that are there.
-use Rattle.std.proofs.Common.{rules, ◌∙◌, sym}
-use Rattle.std.proofs.lemmas.Iterator.{YieldsList-from_slice}
-use Rattle.std.proofs.lemmas.Iterator.Consumers.{YieldsList-from_filter_map, min_from_yields_List}
-use Rattle.std.proofs.lemmas.Iterator.Adapters.{option_map_id}
-use Rattle.protocol.specs.ConnectionTable.{deadline_of}
-use Rattle.records.proofs.Searches.{earliest_row}
+-- The earlier deadlines, record by record.
+use Rattle.std.proofs.Common.{◌≡◌, ◌∙◌, ap, rules}
+use Rattle.std.specs.Prelude.{None}
+use Rattle.std.proofs.lemmas.Fn.{fold_over, slice_gives, fronts}
+use Rattle.protocol.specs.ConnectionTable.{earliest}
+use Rattle.records.proofs.Searches.{earliest_in, earliest_none, earliest_more}
 use Rattle.records.proofs.earliest.Goals as goal
 
 pub returns : goal.returns
+unfolding earliest
 returns g c =
     let value = g.R.Record.value in
     let rows = c.args.rows.now in
-    sym (option_map_id c.min.result) ∙ min_from_yields_List {v = λ x. x} _ _ c.min.ensures.ran (YieldsList-from_filter_map _ (λ x. deadline_of (value x)) (YieldsList-from_slice rows (search rules)) (search rules) (λ x b q k. search rules)) ∙ earliest_row value rows _ (g.met.R.Record.laws rows)
+    fold_over fronts (λ y. y.now) _ (λ ys d. d ≡ earliest_in value None ys) _ (λ ys a x b f j k. (earliest_more value ys x.now a b j (search rules), search rules)) _ _ _ _ (slice_gives c.iter.result) (earliest_none value) c.fold.ensures.ran ∙ ap (earliest_in value None) c.iter.ensures.rest ∙ ap earliest (g.met.R.Record.laws rows)
