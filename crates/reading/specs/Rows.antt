@@ -1,5 +1,6 @@
 -- The readings of the clients that read at one time.
-use Rattle.std.specs.Prelude.{ℕ, Bool, not, ◌&&◌, Option, Some, None, List, position, get_or, set, replicate}
+use Rattle.std.specs.Prelude.{ℕ, Bool, not, ◌&&◌, Option, Some, None, List, position, get_or, set, replicate, ltb}
+use Rattle.picks.specs.Pick.{pick}
 use Rattle.protocol.specs.declared.SdoClientInfo.{SdoClientInfo}
 use Rattle.protocol.specs.ConnectionTable.{same_client}
 use Rattle.reading.specs.declared.Reading.{Reading}
@@ -11,10 +12,10 @@ is_own client r = r.running && same_client r.client client
 abbrev pub is_free : Reading → Bool
 is_free r = not r.running
 
--- a client's own place, or a free one
+-- a client's own place, or a free one, also where the number is no place of the row
 abbrev pub place_for : List Reading → Option ℕ → Option ℕ
 place_for rows None = position is_free rows
-place_for rows (Some own) = Some own
+place_for rows (Some own) = pick (ltb own 8) (Some own) (position is_free rows)
 
 -- the reading at a place: without one, that of nobody
 abbrev pub reading_at : List Reading → Option ℕ → Reading

@@ -27,12 +27,13 @@ fn free_place(rows: [Reading; 8]) -> Option<usize>
     rows.iter().position(|r| !r.running)
 }
 
-// The place for a client's reading: its own, or a free one.
+// The place for a client's reading: its own, or a free one, also for a number that is no place of the row.
 // (A row and a place in it, here and below: a receiver and its argument.)
+#[tactic(auto, unfolding(picks::specs::Pick::pick))]
 pub fn place_for(rows: [Reading; 8], own: Option<usize>) -> Option<usize>
     ensures { result ≡ place_for rows own }
 {
-    own.or_else(|| free_place(rows))
+    own.filter(|i| *i < 8).or_else(|| free_place(rows))
 }
 
 // The reading at a place: without one, that of nobody.
