@@ -2,15 +2,16 @@
 #![tactic(auto)]
 
 mod exercise;
+mod print;
 mod sheet;
 mod verdict;
 
 use crate::sheet::{Call, Sheet};
-use crate::verdict::{Break, End};
+use crate::verdict::Break;
 use input::{INPUT, Player, Window};
 use marking::Exercise;
 use script::{ANSWER, Done, IMAGE, LENT_AREA, Lent};
-use std::{fmt, io};
+use std::io;
 
 // The sheet's player: what is lent, of which buffers, the sheet so far, and where it is printed.
 #[derive(Drop)]
@@ -66,21 +67,12 @@ fn ended(input: &[u8; INPUT], window: Window) -> Option<Break> {
 }
 
 // What is marked, and how to read the steps.
-#[derive(Clone, Copy)]
-struct Title(Exercise);
-
-impl fmt::Display for Title {
-    fn fmt<W: fmt::Write>(&self, f: &mut fmt::Formatter<W>) -> fmt::Result {
-        let object = sheet::object_of(self.0);
-        f.write_str("MARKED SHEET\n")?;
-        writeln!(
-            f,
-            "Exercise: read {object}, to its end: {} bytes.",
-            self.0.length
-        )?;
-        f.write_str("Each step is what a client sent and what the controller answered: ")?;
-        f.write_str("in words, decoded, and as bytes in hex.\n\n")
-    }
+fn say_title(rt: &impl Print, e: Exercise) -> io::Result<()> {
+    print!(rt; "MARKED SHEET\nExercise: read ")?;
+    sheet::say_object(rt, e)?;
+    println!(rt; ", to its end: {} bytes.", e.length)?;
+    print!(rt; "Each step is what a client sent and what the controller answered: ")?;
+    println!(rt; "in words, decoded, and as bytes in hex.\n")
 }
 
 // The end of the last line, where all that stands before it was written. Where something cannot be written, the sheet is not whole.
@@ -103,16 +95,9 @@ fn sheet_of(rt: &(impl Input + Print), e: Exercise) -> io::Result<()> {
         image: [0; IMAGE],
         sheet: Sheet::blank(e),
     };
-    print!(rt; "{}", Title(e))?;
+    say_title(rt, e)?;
     let window = input::played(&mut reader, &mut input, &mut marking)?;
-    let ended = ended(&input, window);
-    print!(rt;
-        "{}",
-        End {
-            sheet: &marking.sheet,
-            ended
-        }
-    )
+    verdict::say_end(rt, &marking.sheet, ended(&input, window))
 }
 
 // Marks the recording on standard input.

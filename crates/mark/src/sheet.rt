@@ -1,13 +1,16 @@
 // The sheet: each call of a recording as a step, and what the steps come to.
+ghost use Rattle.std.specs.Prelude.{◌≡◌};
+ghost use Rattle.marking.specs.Marks.{mark_of};
+
+use crate::print;
 use items::{Item, UnknownItem};
-use marking::{Book, Event, Exercise, Noted};
+use marking::{Book, Event, Exercise, Mark, Noted};
 use protocol::{Answered, Connection, ReceiveConnState, Refusal, SdoClientInfo, SdoServerState};
 use reading::frame::Frame;
 use reading::{Reading, frame};
 use script::told::Told;
-use std::{fmt, io};
-use steps::{Answer, Request};
-use wording::{Client, Clock, Decoded, Object, Refused};
+use std::io;
+use steps::Answer;
 
 // A finished reading of the exercise's object.
 #[derive(Clone, Copy)]
@@ -42,11 +45,12 @@ pub struct Call<'a> {
 }
 
 // The object of an exercise.
-pub fn object_of(e: Exercise) -> Object {
-    Object {
-        index: e.index,
-        sub: e.sub,
-    }
+pub fn say_object(rt: &impl Print, e: Exercise) -> io::Result<()> {
+    print::laid(rt, |page| wording::put_object(page, 0, e.index, e.sub))
+}
+
+pub fn say_client(rt: &impl Print, client: SdoClientInfo) -> io::Result<()> {
+    print::laid(rt, |page| wording::put_client(page, 0, client))
 }
 
 // Whether a request has the number of the client's frame before, and is no error response.
@@ -76,15 +80,16 @@ struct Sent<'a> {
     bytes: &'a [u8],
 }
 
-impl fmt::Display for Sent<'_> {
-    fn fmt<W: fmt::Write>(&self, f: &mut fmt::Formatter<W>) -> fmt::Result {
+impl Sent<'_> {
+    fn say(&self, rt: &impl Print) -> io::Result<()> {
         let seen = frame::read(self.bytes);
-        let request = Request(seen);
-        write!(f, "{}\n  request: {request}", Client(self.client))?;
+        say_client(rt, self.client)?;
+        print!(rt; "\n  request: ")?;
+        print::laid(rt, |page| steps::put_request(page, 0, seen))?;
         if is_repeat(self.row, self.client, seen.frame) {
-            f.write_str("; a repeat: it has the number of the frame before")?;
+            print!(rt; "; a repeat: it has the number of the frame before")?;
         }
-        write!(f, "{}", Decoded(seen))
+        print::laid(rt, |page| wording::put_frame(page, 0, seen))
     }
 }
 
@@ -112,6 +117,13 @@ impl Sheet {
             finished: 0,
             passed: None,
         }
+    }
+
+    // The mark of the steps so far: what the book comes to, whatever stands beside it.
+    pub fn mark(&self) -> Mark
+        ensures { result ≡ mark_of self.now.book.marks }
+    {
+        marking::mark_of(self.book.marks)
     }
 
     // A reading is finished.
@@ -147,7 +159,9 @@ impl Sheet {
             piece,
             reading,
         };
-        print!(rt; "  answer:  {answer}{}", Decoded(seen))?;
+        print!(rt; "  answer:  ")?;
+        print::laid(rt, |page| steps::put_answer(page, 0, answer))?;
+        print::laid(rt, |page| wording::put_frame(page, 0, seen))?;
         if let Some(Event::Finished(length)) = event {
             self.finish(Finish {
                 call: self.calls,
@@ -163,12 +177,19 @@ impl Sheet {
     fn refused(&mut self, rt: &impl Print, request: &[u8], refusal: Refusal) -> io::Result<()> {
         let number = u8::from(refusal);
         self.book = marking::refused(self.book, self.exercise, request, number);
-        println!(rt; "  answer:  none, refused with {}\n", Refused(number))
+        print!(rt; "  answer:  none, refused with ")?;
+        print::laid(rt, |page| wording::put_refusal(page, 0, number))?;
+        println!(rt; "\n")
     }
 
     // The line that begins a step.
     fn head(&self, rt: &impl Print, item: &[u8]) -> io::Result<()> {
-        print!(rt; "Call {} at {}, ", self.calls, Clock(items::clock_of(item)))
+        print!(rt; "Call {} at ", self.calls)?;
+        print::laid(
+            rt,
+            |page| wording::put_clock(page, 0, items::clock_of(item)),
+        )?;
+        print!(rt; ", ")
     }
 
     // An answer to a client, and whether its connection is closed then. A tick's has no request.
@@ -201,7 +222,7 @@ impl Sheet {
             bytes: items::request_of(call.item),
         };
         self.head(rt, call.item)?;
-        print!(rt; "{sent}")?;
+        sent.say(rt)?;
         match outcome {
             Ok(said) => self.answer_step(rt, call, said, sent.bytes),
             Err(refusal) => self.refused(rt, sent.bytes, refusal),
@@ -222,7 +243,9 @@ impl Sheet {
             }
             Ok(Some(said)) => {
                 self.head(rt, call.item)?;
-                println!(rt; "the controller's own clock, for {}", Client(said.client))?;
+                print!(rt; "the controller's own clock, for ")?;
+                say_client(rt, said.client)?;
+                println!(rt; "")?;
                 self.answer_step(rt, call, said, b"")
             }
             Err(refusal) => {

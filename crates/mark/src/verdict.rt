@@ -1,15 +1,15 @@
 // The end of the sheet: what finished, and the mark.
-use crate::sheet;
 use crate::sheet::{Finish, Sheet};
-use marking::{Exercise, Mark, Marks};
-use std::fmt;
-use wording::{Abort, Client, Code, Refused};
+use crate::{print, sheet};
+use marking::Mark;
+use std::{fmt, io};
 
-impl fmt::Display for Finish {
-    fn fmt<W: fmt::Write>(&self, f: &mut fmt::Formatter<W>) -> fmt::Result {
-        write!(f, "call {}, {}", self.call, Client(self.client))?;
-        write!(f, ": {} bytes, CRC-32 {}", self.length, Code(self.crc))
-    }
+// A finish, without an end of the line.
+fn say_finish(rt: &impl Print, finish: Finish) -> io::Result<()> {
+    print!(rt; "call {}, ", finish.call)?;
+    sheet::say_client(rt, finish.client)?;
+    print!(rt; ": {} bytes, CRC-32 ", finish.length)?;
+    print::laid(rt, |page| wording::put_code(page, 0, finish.crc))
 }
 
 // Where a recording ends that is not whole: in the middle of an item, or at one that is unknown.
@@ -33,124 +33,95 @@ impl fmt::Display for Break {
     }
 }
 
-// The reason of a mark, with what the steps came to.
-#[derive(Clone, Copy)]
-struct Reason {
-    exercise: Exercise,
-    marks: Marks,
-    mark: Mark,
-}
-
-// Where a reading that did not end stopped.
-fn write_stopped<W: fmt::Write>(
-    f: &mut fmt::Formatter<W>,
-    sent: u32,
-    total: u32,
-    ended: Option<u32>,
-) -> fmt::Result {
-    write!(
-        f,
-        "the reading began and stopped at byte {sent} of {total}: "
-    )?;
-    match ended {
-        Some(code) => write!(f, "it was ended by abort {}.", Abort(code)),
-        None => f.write_str("the pieces were not acknowledged to the end."),
-    }
-}
-
-impl fmt::Display for Reason {
-    fn fmt<W: fmt::Write>(&self, f: &mut fmt::Formatter<W>) -> fmt::Result {
-        let object = sheet::object_of(self.exercise);
-        match self.mark {
-            Mark::Passed => f.write_str("."),
-            Mark::OtherLength(length) => {
-                let wanted = self.exercise.length;
-                write!(f, "the object was read to its end, but has {length} bytes ")?;
-                write!(f, "where the exercise asks for {wanted}.")
-            }
-            Mark::NotOpened => f.write_str("the connection was never opened (initialised)."),
-            Mark::NotAsked => {
-                write!(
-                    f,
-                    "the connection was opened, but {object} was never asked for."
-                )
-            }
-            Mark::DeniedBy(code) => {
-                let abort = Abort(code);
-                write!(
-                    f,
-                    "the object was asked for, and the answer was abort {abort}."
-                )
-            }
-            Mark::RefusedWith(number) => {
-                let refused = Refused(number);
-                write!(
-                    f,
-                    "the object was asked for, and the request was refused with {refused}."
-                )
-            }
-            Mark::NotAnswered => {
-                f.write_str("the object was asked for in the middle of another transfer.")
-            }
-            Mark::Stopped(sent, total) => write_stopped(f, sent, total, self.marks.ended),
-        }
-    }
-}
-
-// The end of a sheet, but for the end of its last line, with where the recording ends, if it is not whole.
-#[derive(Clone, Copy)]
-pub struct End<'a> {
-    pub sheet: &'a Sheet,
-    pub ended: Option<Break>,
-}
-
 // What was played, and each finish that is kept.
-fn write_counts<W: fmt::Write>(f: &mut fmt::Formatter<W>, sheet: &Sheet) -> fmt::Result {
-    write!(f, "{} calls. Not shown: ", sheet.calls)?;
-    write!(
-        f,
+fn say_counts(rt: &impl Print, sheet: &Sheet) -> io::Result<()> {
+    print!(rt; "{} calls. Not shown: ", sheet.calls)?;
+    print!(rt;
         "{} of the controller's own clock that sent nothing, and ",
         sheet.silent
     )?;
-    writeln!(f, "{} that asked for the next deadline.", sheet.queries)?;
-    let object = sheet::object_of(sheet.exercise);
-    writeln!(f, "Finished readings of {object}: {}", sheet.finished)?;
+    println!(rt; "{} that asked for the next deadline.", sheet.queries)?;
+    print!(rt; "Finished readings of ")?;
+    sheet::say_object(rt, sheet.exercise)?;
+    println!(rt; ": {}", sheet.finished)?;
     for finish in sheet.finishes.iter().flatten() {
-        writeln!(f, "  {finish}")?;
+        print!(rt; "  ")?;
+        say_finish(rt, *finish)?;
+        println!(rt; "")?;
     }
     if 8 < sheet.finished {
-        f.write_str("  and more\n")?;
+        println!(rt; "  and more")?;
     }
     Ok(())
 }
 
-// The mark of a recording in which no reading passed. One that is not whole shows no more than what came before.
-fn write_failed<W: fmt::Write>(f: &mut fmt::Formatter<W>, end: &End) -> fmt::Result {
-    f.write_str("MARK: FAILED\nReason: ")?;
-    if let Some(ended) = end.ended {
-        write!(f, "{ended}; up to there: ")?;
-    }
-    if end.sheet.calls == 0 {
-        return f.write_str("the recording has no call in it.");
-    }
-    let marks = end.sheet.book.marks;
-    let reason = Reason {
-        exercise: end.sheet.exercise,
-        marks,
-        mark: marking::mark_of(marks),
+// Where a reading that did not end stopped.
+fn say_stopped(rt: &impl Print, sent: u32, total: u32, ended: Option<u32>) -> io::Result<()> {
+    print!(rt; "the reading began and stopped at byte {sent} of {total}: ")?;
+    let Some(code) = ended else {
+        return print!(rt; "the pieces were not acknowledged to the end");
     };
-    write!(f, "{reason}")
+    print!(rt; "it was ended by abort ")?;
+    print::laid(rt, |page| wording::put_abort(page, 0, code))
 }
 
-impl fmt::Display for End<'_> {
-    fn fmt<W: fmt::Write>(&self, f: &mut fmt::Formatter<W>) -> fmt::Result {
-        write_counts(f, self.sheet)?;
-        let Some(finish) = self.sheet.passed else {
-            return write_failed(f, self);
-        };
-        if let Some(ended) = self.ended {
-            writeln!(f, "Note: {ended}.")?;
+// The reason of a mark, with what the steps came to.
+fn say_reason(rt: &impl Print, sheet: &Sheet, mark: Mark) -> io::Result<()> {
+    match mark {
+        Mark::Passed => {}
+        Mark::OtherLength(length) => {
+            let wanted = sheet.exercise.length;
+            print!(rt; "the object was read to its end, but has {length} bytes ")?;
+            print!(rt; "where the exercise asks for {wanted}")?;
         }
-        write!(f, "MARK: PASSED\nThe object was read to its end: {finish}")
+        Mark::NotOpened => print!(rt; "the connection was never opened (initialised)")?,
+        Mark::NotAsked => {
+            print!(rt; "the connection was opened, but ")?;
+            sheet::say_object(rt, sheet.exercise)?;
+            print!(rt; " was never asked for")?;
+        }
+        Mark::DeniedBy(code) => {
+            print!(rt; "the object was asked for, and the answer was abort ")?;
+            print::laid(rt, |page| wording::put_abort(page, 0, code))?;
+        }
+        Mark::RefusedWith(number) => {
+            print!(rt; "the object was asked for, and the request was refused with ")?;
+            print::laid(rt, |page| wording::put_refusal(page, 0, number))?;
+        }
+        Mark::NotAnswered => {
+            print!(rt; "the object was asked for in the middle of another transfer")?
+        }
+        Mark::Stopped(sent, total) => say_stopped(rt, sent, total, sheet.book.marks.ended)?,
+    }
+    print!(rt; ".")
+}
+
+// The mark of a reading that finished.
+fn say_passed(rt: &impl Print, sheet: &Sheet, ended: Option<Break>) -> io::Result<()> {
+    if let Some(ended) = ended {
+        println!(rt; "Note: {ended}.")?;
+    }
+    print!(rt; "MARK: PASSED\nThe object was read to its end: ")?;
+    sheet.passed.map_or(Ok(()), |finish| say_finish(rt, finish))
+}
+
+// The mark of a recording in which no reading passed. One that is not whole shows no more than what came before.
+fn say_failed(rt: &impl Print, sheet: &Sheet, ended: Option<Break>, mark: Mark) -> io::Result<()> {
+    print!(rt; "MARK: FAILED\nReason: ")?;
+    if let Some(ended) = ended {
+        print!(rt; "{ended}; up to there: ")?;
+    }
+    if sheet.calls == 0 {
+        return print!(rt; "the recording has no call in it.");
+    }
+    say_reason(rt, sheet, mark)
+}
+
+// The end of a sheet, but for the end of its last line, with where the recording ends, if it is not whole.
+pub fn say_end(rt: &impl Print, sheet: &Sheet, ended: Option<Break>) -> io::Result<()> {
+    say_counts(rt, sheet)?;
+    match sheet.mark() {
+        Mark::Passed => say_passed(rt, sheet, ended),
+        mark => say_failed(rt, sheet, ended, mark),
     }
 }
