@@ -1,8 +1,7 @@
 // Calls of the server, each printed with what was given, what came out and what it left. A call is right when the whole answer buffer, the answer's length, the refusal, the records in use and the image are as they should be.
-use crate::rows;
 use crate::rows::Card;
+use crate::{print, rows};
 use protocol::{Called, Connection, Refusal, SdoClientInfo, SdoServerState};
-use show::Start;
 use std::{fmt, io};
 
 // What every byte of the answer buffer is before a call.
@@ -114,37 +113,12 @@ struct Came<'a> {
     left: Left,
 }
 
-impl fmt::Display for Came<'_> {
-    fn fmt<W: fmt::Write>(&self, f: &mut fmt::Formatter<W>) -> fmt::Result {
-        f.write_str("came  ")?;
-        match self.outcome {
-            Ok(Some(length)) => {
-                let bytes = octets::part(self.answer, 0, length);
-                write!(f, "{}", Start { bytes, shown: 16 })?;
-            }
-            Ok(None) => f.write_str(" nothing")?,
-            Err(refusal) => write!(f, " refused with {}", u8::from(refusal))?,
-        }
-        write!(f, "; {}", self.left)
-    }
-}
-
 // A call: what is printed of it, the request's bytes, and what is due.
 #[derive(Clone, Copy)]
 pub struct Call<'a> {
     pub what: &'a str,
     pub bytes: &'a [u8],
     pub due: Due<'a>,
-}
-
-impl fmt::Display for Call<'_> {
-    fn fmt<W: fmt::Write>(&self, f: &mut fmt::Formatter<W>) -> fmt::Result {
-        let given = Start {
-            bytes: self.bytes,
-            shown: 24,
-        };
-        write!(f, "{}\n            given {given}", self.what)
-    }
 }
 
 // A tick at a clock. The card has it of one table: with an upload that is due at 1,000,000.
@@ -159,7 +133,7 @@ impl fmt::Display for Tick {
 }
 
 // The server between calls: its table, its area and its image, and the image as it should be after each call.
-#[derive(Drop)]
+#[derive(Clone, Copy)]
 pub struct Bench<'a, const N: usize> {
     table: [Connection; 8],
     area: [u8; 65536],
@@ -229,18 +203,30 @@ fn part_of<'a>(object: &'a [u8], text: &str) -> &'a [u8] {
 }
 
 impl<P: Print> Card<'_, P> {
-    // A call's row: what was given, what came and, where that is something else, what was due.
-    // (Each prints by Display: this is the step that counts, and that prints the last or not.)
-    fn say_call(
-        &mut self,
-        given: &impl fmt::Display,
-        came: Came,
-        due: Due,
-        same: bool,
-    ) -> io::Result<()> {
-        self.verdict(same)?;
-        println!(self.rt; "{given}")?;
-        println!(self.rt; "            {came}")?;
+    // What is given with a call.
+    fn say_given(&self, call: Call) -> io::Result<()> {
+        print!(self.rt; "{}\n            given ", call.what)?;
+        print::laid(self.rt, |page| show::put_start(page, 0, call.bytes, 24))?;
+        println!(self.rt; "")
+    }
+
+    // What came of a call.
+    fn say_came(&self, came: Came) -> io::Result<()> {
+        print!(self.rt; "            came  ")?;
+        match came.outcome {
+            Ok(Some(length)) => {
+                let bytes = octets::part(came.answer, 0, length);
+                print::laid(self.rt, |page| show::put_start(page, 0, bytes, 16))?;
+            }
+            Ok(None) => print!(self.rt; " nothing")?,
+            Err(refusal) => print!(self.rt; " refused with {}", u8::from(refusal))?,
+        }
+        println!(self.rt; "; {}", came.left)
+    }
+
+    // The end of a call's row: what came and, where that is something else, what was due.
+    fn say_outcome(&self, came: Came, due: Due, same: bool) -> io::Result<()> {
+        self.say_came(came)?;
         if !same {
             println!(self.rt; "            {due}")?;
         }
@@ -278,7 +264,9 @@ impl<'a, const N: usize> Bench<'a, N> {
             left: left_in(table),
         };
         let same = is_right(came, call.due, &self.image, self.object);
-        card.say_call(&call, came, call.due, same)
+        card.verdict(same)?;
+        card.say_given(call)?;
+        card.say_outcome(came, call.due, same)
     }
 
     // A request of a line: what is printed, the request, the bytes that begin its answer, the image's part behind them, and what is left.
@@ -324,6 +312,8 @@ impl<'a, const N: usize> Bench<'a, N> {
             left: left_in(table),
         };
         let same = is_right(came, due, &self.image, self.object);
-        card.say_call(&Tick(clock), came, due, same)
+        card.verdict(same)?;
+        println!(card.rt; "{}", Tick(clock))?;
+        card.say_outcome(came, due, same)
     }
 }

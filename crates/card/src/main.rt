@@ -4,6 +4,7 @@
 mod bench;
 mod calls;
 mod codecs;
+mod print;
 mod rows;
 mod tables;
 

@@ -1,5 +1,5 @@
 // The card's rows. A text of bytes is as on the card, with a blank before each byte. Rows stand in lines, their fields parted by bars.
-use show::Bytes;
+use crate::print;
 use std::io;
 
 // How wide a row is before what came.
@@ -69,7 +69,8 @@ impl<'a, P: Print> Card<'a, P> {
         let same = came == read(expected, &mut buffer);
         self.verdict(same)?;
         let width = WIDTH.saturating_sub(what.len());
-        print!(self.rt; "{what}{given:width$}{}", Bytes(came))?;
+        print!(self.rt; "{what}{given:width$}")?;
+        print::laid(self.rt, |page| show::put_bytes(page, 0, came))?;
         if !same {
             print!(self.rt; "  expected{expected}")?;
         }
