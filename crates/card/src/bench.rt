@@ -132,11 +132,11 @@ impl fmt::Display for Tick {
     }
 }
 
-// The server between calls: its table, its area and its image, and the image as it should be after each call.
+// The server between calls: its table and its image, and the image as it should be after each call. The area is lent beside it.
+// (In the bench it was zeroed twice, where the value was made and where it went, and took the stack of both.)
 #[derive(Clone, Copy)]
 pub struct Bench<'a, const N: usize> {
     table: [Connection; 8],
-    area: [u8; 65536],
     image: [u8; N],
     object: &'a [u8],
 }
@@ -235,22 +235,26 @@ impl<P: Print> Card<'_, P> {
 }
 
 impl<'a, const N: usize> Bench<'a, N> {
-    // A bench whose area is all zeros.
+    // A bench before its first call.
     pub fn new(table: [Connection; 8], image: [u8; N], object: &'a [u8]) -> Bench<'a, N> {
         Bench {
             table,
-            area: [0; 65536],
             image,
             object,
         }
     }
 
     // A request of the client at clock 0, as bytes.
-    pub fn asks(&mut self, card: &mut Card<'_, impl Print>, call: Call) -> io::Result<()> {
+    pub fn asks(
+        &mut self,
+        card: &mut Card<'_, impl Print>,
+        area: &mut [u8; 65536],
+        call: Call,
+    ) -> io::Result<()> {
         let mut answer = [FILL; 1468];
         let Called { outcome, table } = owned::handle_request(
             self.table,
-            &mut self.area,
+            area,
             &mut self.image,
             &mut answer,
             client(),
@@ -270,7 +274,12 @@ impl<'a, const N: usize> Bench<'a, N> {
     }
 
     // A request of a line: what is printed, the request, the bytes that begin its answer, the image's part behind them, and what is left.
-    fn step(&mut self, card: &mut Card<'_, impl Print>, line: &str) -> io::Result<()> {
+    fn step(
+        &mut self,
+        card: &mut Card<'_, impl Print>,
+        area: &mut [u8; 65536],
+        line: &str,
+    ) -> io::Result<()> {
         let (what, rest) = line.split_once('|').unwrap_or((line, ""));
         let (given, rest) = rest.split_once('|').unwrap_or((rest, ""));
         let (head, rest) = rest.split_once('|').unwrap_or((rest, ""));
@@ -278,14 +287,15 @@ impl<'a, const N: usize> Bench<'a, N> {
         let mut buffer = [0; 32];
         let bytes = rows::read(given, &mut buffer);
         let due = Due::answer(head, part_of(self.object, part), Left::from(word));
-        self.asks(card, Call { what, bytes, due })
+        self.asks(card, area, Call { what, bytes, due })
     }
 
     // Plays the requests of a text, one to a line, on an area that begins with the bytes 1 to 6.
     pub fn script(&mut self, card: &mut Card<'_, impl Print>, text: &str) -> io::Result<()> {
-        octets::copy_at(&mut self.area, 0, &[1, 2, 3, 4, 5, 6]);
+        let mut area = [0; 65536];
+        octets::copy_at(&mut area, 0, &[1, 2, 3, 4, 5, 6]);
         for line in text.lines() {
-            self.step(card, line)?;
+            self.step(card, &mut area, line)?;
         }
         Ok(())
     }
@@ -294,13 +304,14 @@ impl<'a, const N: usize> Bench<'a, N> {
     pub fn ticks(
         &mut self,
         card: &mut Card<'_, impl Print>,
+        area: &[u8; 65536],
         clock: u64,
         due: Due,
     ) -> io::Result<()> {
         let mut answer = [FILL; 1468];
         let Called { outcome, table } = owned::tick(
             self.table,
-            &self.area,
+            area,
             &self.image,
             &mut answer,
             clock,

@@ -113,9 +113,10 @@ impl<P: Print> Card<'_, P> {
             outcome: Ok(None),
             left: Left::Upload,
         };
-        bench.ticks(self, 999999, nothing)?;
+        let area = [0; 65536];
+        bench.ticks(self, &area, 999999, nothing)?;
         let head = " FE 00 00 00 00 09 30 00 04 00 00 00 00 00 04 05";
-        bench.ticks(self, 1000000, Due::answer(head, &[], Left::Dropped))
+        bench.ticks(self, &area, 1000000, Due::answer(head, &[], Left::Dropped))
     }
 
     // A request in a download of ten bytes to 2001/1, of which six are there.
@@ -166,7 +167,7 @@ impl<P: Print> Card<'_, P> {
             bytes: &bytes,
             due,
         };
-        Bench::new(record::empty_table(), [0, 0], &[0, 0]).asks(self, call)
+        Bench::new(record::empty_table(), [0, 0], &[0, 0]).asks(self, &mut [0; 65536], call)
     }
 
     // A request of 1,500 bytes is served, one of 1,501 is refused with 6.
