@@ -1,6 +1,6 @@
 // Calls of the server, each printed with what was given, what came out and what it left. A call is right when the whole answer buffer, the answer's length, the refusal, the records in use and the image are as they should be.
 use crate::rows::Card;
-use crate::{print, rows};
+use crate::{print_laid, rows};
 use protocol::{Called, Connection, Refusal, SdoClientInfo, SdoServerState};
 use std::{fmt, io};
 
@@ -206,7 +206,7 @@ impl<P: Print> Card<'_, P> {
     // What is given with a call.
     fn say_given(&self, call: Call) -> io::Result<()> {
         print!(self.rt; "{}\n            given ", call.what)?;
-        print::laid(self.rt, |page| show::put_start(page, 0, call.bytes, 24))?;
+        print_laid(self.rt, |page| show::put_start(page, 0, call.bytes, 24))?;
         println!(self.rt; "")
     }
 
@@ -216,7 +216,7 @@ impl<P: Print> Card<'_, P> {
         match came.outcome {
             Ok(Some(length)) => {
                 let bytes = octets::part(came.answer, 0, length);
-                print::laid(self.rt, |page| show::put_start(page, 0, bytes, 16))?;
+                print_laid(self.rt, |page| show::put_start(page, 0, bytes, 16))?;
             }
             Ok(None) => print!(self.rt; " nothing")?,
             Err(refusal) => print!(self.rt; " refused with {}", u8::from(refusal))?,

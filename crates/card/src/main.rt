@@ -4,7 +4,6 @@
 mod bench;
 mod calls;
 mod codecs;
-mod print;
 mod rows;
 mod tables;
 
@@ -27,6 +26,19 @@ H header numbers 63, 1, marks 2, 0| 3F 01 02 00| FE 04 00 00
 X abort, id and code| 07 00 00 02 06| 00 07 30 00 04 00 00 00 00 00 02 06
 C undecodable| 05 07 00| 05
 H header numbers 63, 0, marks 2, 0| 3F 00 02 00| FE 00 00 00";
+
+// The bytes of a page: no text of the card has as many.
+const PAGE: usize = 2048;
+
+// Prints bytes in hex: a function of `show` that cannot fail lays them on a page, and the page is printed as far as it was laid.
+// (Not by Display, as in `mark`.)
+fn print_laid<F: FnOnce(&mut [u8]) -> usize>(rt: &impl Print, lay: F) -> io::Result<()>
+    requires { F.IsAlwaysCallable lay }
+{
+    let mut page = [0; PAGE];
+    let end = lay(&mut page);
+    rt.write_all(octets::part(&page, 0, end))
+}
 
 impl<P: Print> Card<'_, P> {
     // The rows that are calls.

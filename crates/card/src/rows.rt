@@ -1,5 +1,5 @@
 // The card's rows. A text of bytes is as on the card, with a blank before each byte. Rows stand in lines, their fields parted by bars.
-use crate::print;
+use crate::print_laid;
 use std::io;
 
 // How wide a row is before what came.
@@ -70,7 +70,7 @@ impl<'a, P: Print> Card<'a, P> {
         self.verdict(same)?;
         let width = WIDTH.saturating_sub(what.len());
         print!(self.rt; "{what}{given:width$}")?;
-        print::laid(self.rt, |page| show::put_bytes(page, 0, came))?;
+        print_laid(self.rt, |page| show::put_bytes(page, 0, came))?;
         if !same {
             print!(self.rt; "  expected{expected}")?;
         }

@@ -2,7 +2,6 @@
 #![tactic(auto)]
 
 mod exercise;
-mod print;
 mod sheet;
 mod verdict;
 
@@ -12,6 +11,19 @@ use input::{INPUT, Player, Window};
 use marking::Exercise;
 use script::{ANSWER, Done, IMAGE, LENT_AREA, Lent};
 use std::io;
+
+// The bytes of a page: no text of the sheet has as many.
+const PAGE: usize = 2048;
+
+// Prints a text of `wording` or `steps`: a function that cannot fail lays it on a page, and the page is printed as far as it was laid.
+// (Not by Display: what that prints is the text only where `fmt` returns Ok, and one that never does meets its clause too. `card` has this function as well: in a crate for both it would be public, and no public function has a `requires`.)
+fn print_laid<F: FnOnce(&mut [u8]) -> usize>(rt: &impl Print, lay: F) -> io::Result<()>
+    requires { F.IsAlwaysCallable lay }
+{
+    let mut page = [0; PAGE];
+    let end = lay(&mut page);
+    rt.write_all(octets::part(&page, 0, end))
+}
 
 // The sheet's player: what is lent, of which buffers, the sheet so far, and where it is printed.
 #[derive(Drop)]

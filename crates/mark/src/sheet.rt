@@ -2,7 +2,7 @@
 ghost use Rattle.std.specs.Prelude.{◌≡◌};
 ghost use Rattle.marking.specs.Marks.{mark_of};
 
-use crate::print;
+use crate::print_laid;
 use items::{Item, UnknownItem};
 use marking::{Book, Event, Exercise, Mark, Noted};
 use protocol::{Answered, Connection, ReceiveConnState, Refusal, SdoClientInfo, SdoServerState};
@@ -46,11 +46,11 @@ pub struct Call<'a> {
 
 // The object of an exercise.
 pub fn say_object(rt: &impl Print, e: Exercise) -> io::Result<()> {
-    print::laid(rt, |page| wording::put_object(page, 0, e.index, e.sub))
+    print_laid(rt, |page| wording::put_object(page, 0, e.index, e.sub))
 }
 
 pub fn say_client(rt: &impl Print, client: SdoClientInfo) -> io::Result<()> {
-    print::laid(rt, |page| wording::put_client(page, 0, client))
+    print_laid(rt, |page| wording::put_client(page, 0, client))
 }
 
 // Whether a request has the number of the client's frame before, and is no error response.
@@ -85,11 +85,11 @@ impl Sent<'_> {
         let seen = frame::read(self.bytes);
         say_client(rt, self.client)?;
         print!(rt; "\n  request: ")?;
-        print::laid(rt, |page| steps::put_request(page, 0, seen))?;
+        print_laid(rt, |page| steps::put_request(page, 0, seen))?;
         if is_repeat(self.row, self.client, seen.frame) {
             print!(rt; "; a repeat: it has the number of the frame before")?;
         }
-        print::laid(rt, |page| wording::put_frame(page, 0, seen))
+        print_laid(rt, |page| wording::put_frame(page, 0, seen))
     }
 }
 
@@ -160,8 +160,8 @@ impl Sheet {
             reading,
         };
         print!(rt; "  answer:  ")?;
-        print::laid(rt, |page| steps::put_answer(page, 0, answer))?;
-        print::laid(rt, |page| wording::put_frame(page, 0, seen))?;
+        print_laid(rt, |page| steps::put_answer(page, 0, answer))?;
+        print_laid(rt, |page| wording::put_frame(page, 0, seen))?;
         if let Some(Event::Finished(length)) = event {
             self.finish(Finish {
                 call: self.calls,
@@ -178,14 +178,14 @@ impl Sheet {
         let number = u8::from(refusal);
         self.book = marking::refused(self.book, self.exercise, request, number);
         print!(rt; "  answer:  none, refused with ")?;
-        print::laid(rt, |page| wording::put_refusal(page, 0, number))?;
+        print_laid(rt, |page| wording::put_refusal(page, 0, number))?;
         println!(rt; "\n")
     }
 
     // The line that begins a step.
     fn head(&self, rt: &impl Print, item: &[u8]) -> io::Result<()> {
         print!(rt; "Call {} at ", self.calls)?;
-        print::laid(
+        print_laid(
             rt,
             |page| wording::put_clock(page, 0, items::clock_of(item)),
         )?;

@@ -1,6 +1,6 @@
 // The end of the sheet: what finished, and the mark.
 use crate::sheet::{Finish, Sheet};
-use crate::{print, sheet};
+use crate::{print_laid, sheet};
 use marking::Mark;
 use std::{fmt, io};
 
@@ -9,7 +9,7 @@ fn say_finish(rt: &impl Print, finish: Finish) -> io::Result<()> {
     print!(rt; "call {}, ", finish.call)?;
     sheet::say_client(rt, finish.client)?;
     print!(rt; ": {} bytes, CRC-32 ", finish.length)?;
-    print::laid(rt, |page| wording::put_code(page, 0, finish.crc))
+    print_laid(rt, |page| wording::put_code(page, 0, finish.crc))
 }
 
 // Where a recording ends that is not whole: in the middle of an item, or at one that is unknown.
@@ -62,7 +62,7 @@ fn say_stopped(rt: &impl Print, sent: u32, total: u32, ended: Option<u32>) -> io
         return print!(rt; "the pieces were not acknowledged to the end");
     };
     print!(rt; "it was ended by abort ")?;
-    print::laid(rt, |page| wording::put_abort(page, 0, code))
+    print_laid(rt, |page| wording::put_abort(page, 0, code))
 }
 
 // The reason of a mark, with what the steps came to.
@@ -82,11 +82,11 @@ fn say_reason(rt: &impl Print, sheet: &Sheet, mark: Mark) -> io::Result<()> {
         }
         Mark::DeniedBy(code) => {
             print!(rt; "the object was asked for, and the answer was abort ")?;
-            print::laid(rt, |page| wording::put_abort(page, 0, code))?;
+            print_laid(rt, |page| wording::put_abort(page, 0, code))?;
         }
         Mark::RefusedWith(number) => {
             print!(rt; "the object was asked for, and the request was refused with ")?;
-            print::laid(rt, |page| wording::put_refusal(page, 0, number))?;
+            print_laid(rt, |page| wording::put_refusal(page, 0, number))?;
         }
         Mark::NotAnswered => {
             print!(rt; "the object was asked for in the middle of another transfer")?
