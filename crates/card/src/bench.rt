@@ -248,7 +248,7 @@ impl<'a, const N: usize> Bench<'a, N> {
     pub fn asks(
         &mut self,
         card: &mut Card<'_, impl Print>,
-        area: &mut [u8; 65536],
+        area: &mut [u8],
         call: Call,
     ) -> io::Result<()> {
         let mut answer = [FILL; 1468];
@@ -277,7 +277,7 @@ impl<'a, const N: usize> Bench<'a, N> {
     fn step(
         &mut self,
         card: &mut Card<'_, impl Print>,
-        area: &mut [u8; 65536],
+        area: &mut [u8],
         line: &str,
     ) -> io::Result<()> {
         let (what, rest) = line.split_once('|').unwrap_or((line, ""));
@@ -304,7 +304,7 @@ impl<'a, const N: usize> Bench<'a, N> {
     pub fn ticks(
         &mut self,
         card: &mut Card<'_, impl Print>,
-        area: &[u8; 65536],
+        area: &[u8],
         clock: u64,
         due: Due,
     ) -> io::Result<()> {
