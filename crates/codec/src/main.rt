@@ -1,15 +1,18 @@
 // Plays the codec items of standard input on the codecs and writes what they answer as a transcript: oracle/README.md has both formats.
 #![tactic(auto)]
 
-ghost use Rattle.std.specs.Prelude.{◌≤◌};
+ghost use Rattle.std.specs.Prelude.{◌≤◌, ◌+◌, length, IfSome, IfOk};
+ghost use Rattle.input.specs.Runs.{Within};
+ghost use Rattle.output.specs.Output.{waits};
 
-use input::{INPUT, Player, Window};
+use input::{Player, Window};
+use output::Output;
 use protocol::{
     BufferTooShort, CommandError, CommandId, CommandLayerHeader, ReceiveConnState, SdoCommand,
     Segmentation, SendConnState, SequenceLayerHeader,
 };
 use std::io;
-use std::io::{BufWriter, Write};
+use std::io::Write;
 
 // What every byte of a lent buffer is before a call.
 const FILL: u8 = 0xA5;
@@ -20,6 +23,12 @@ const MAX_COMMAND: u16 = 4096;
 const MAX_PAYLOAD: u16 = 2048;
 
 const MAX_BUFFER: u16 = 4096;
+
+// The input's buffer, in which every item fits.
+const INPUT: usize = 65536;
+
+// The most bytes that an item adds to the transcript: a decoded command's.
+const ROOM: usize = 4111;
 
 // What an item asks for.
 #[derive(Clone, Copy)]
@@ -62,7 +71,9 @@ fn limited(n: u16, limit: u16) -> usize
 
 // How long the item at the start of these bytes is. Where they end before the bytes that tell it, the answer is still more than they are.
 // (No twin of items::length_of: the items of another format, which has other numbers, lengths and limits.)
-fn length_of(s: &[u8]) -> usize {
+fn length_of(s: &[u8]) -> usize
+    ensures { result ≤ 4099 }
+{
     match Item::try_from(octets::byte_at(s, 0)) {
         Ok(Item::HeaderDecode) => 2 + usize::from(octets::byte_at(s, 1)),
         Ok(Item::HeaderEncode) => 6,
@@ -85,7 +96,9 @@ fn two_bits(byte: u8) -> Option<u8> {
 
 // Item 1: a sequence header is decoded.
 // (The first byte of each answer is the transcript's number for what came.)
-fn header_decode(item: &[u8], out: &mut impl Write) -> io::Result<()> {
+fn header_decode(item: &[u8], out: &mut Output<impl Write>) -> io::Result<()>
+    ensures { waits out.new ≤ waits out.old + 4111 }
+{
     match sequence::deserialize(octets::rest(item, 2)) {
         Ok(h) => out.write_all(&[0, h.receive, u8::from(h.rcon), h.send, u8::from(h.scon)]),
         Err(BufferTooShort) => out.write_all(&[5]),
@@ -93,7 +106,9 @@ fn header_decode(item: &[u8], out: &mut impl Write) -> io::Result<()> {
 }
 
 // The lowest bytes of a count.
-fn put_count(count: usize, width: usize, out: &mut impl Write) -> io::Result<()> {
+fn put_count(count: usize, width: usize, out: &mut Output<impl Write>) -> io::Result<()>
+    ensures { waits out.new ≤ waits out.old + width }
+{
     out.write_all(octets::part(&(count as u64).to_le_bytes(), 0, width))
 }
 
@@ -102,8 +117,11 @@ fn encoding(
     written: Result<usize, BufferTooShort>,
     width: usize,
     buffer: &[u8],
-    out: &mut impl Write,
-) -> io::Result<()> {
+    out: &mut Output<impl Write>,
+) -> io::Result<()>
+    requires { (width ≤ 2) × (length buffer.now ≤ 4096) }
+    ensures { waits out.new ≤ waits out.old + 4111 }
+{
     match written {
         Ok(count) => {
             out.write_all(&[0])?;
@@ -129,7 +147,9 @@ fn header_of(item: &[u8]) -> Option<SequenceLayerHeader> {
 
 // Item 2: a sequence header is encoded into a buffer of n bytes.
 // (Without a heap no buffer is made of the item's length, here and below: it is the front of an array.)
-fn header_encode(h: SequenceLayerHeader, n: u8, out: &mut impl Write) -> io::Result<()> {
+fn header_encode(h: SequenceLayerHeader, n: u8, out: &mut Output<impl Write>) -> io::Result<()>
+    ensures { waits out.new ≤ waits out.old + 4111 }
+{
     let mut space = [FILL; 255];
     let buffer = &mut space[..usize::from(n)];
     let written = sequence::serialize(h, buffer);
@@ -138,7 +158,10 @@ fn header_encode(h: SequenceLayerHeader, n: u8, out: &mut impl Write) -> io::Res
 
 // Item 3, decoded: the command's fields, its total (0 without one), and its payload.
 // (The transcript's bytes: the card's row of the same fields has no length, no flag for the total, and another place for it.)
-fn command_decoded(c: SdoCommand, bytes: &[u8], out: &mut impl Write) -> io::Result<()> {
+fn command_decoded(c: SdoCommand, bytes: &[u8], out: &mut Output<impl Write>) -> io::Result<()>
+    requires { length bytes.now ≤ 4096 }
+    ensures { waits out.new ≤ waits out.old + 4111 }
+{
     let h = c.header;
     let payload = command::payload(h, bytes);
     let flags = [0, h.transaction, u8::from(h.response), u8::from(h.aborted)];
@@ -152,7 +175,10 @@ fn command_decoded(c: SdoCommand, bytes: &[u8], out: &mut impl Write) -> io::Res
 }
 
 // Item 3: a command is decoded.
-fn command_decode(bytes: &[u8], out: &mut impl Write) -> io::Result<()> {
+fn command_decode(bytes: &[u8], out: &mut Output<impl Write>) -> io::Result<()>
+    requires { length bytes.now ≤ 4096 }
+    ensures { waits out.new ≤ waits out.old + 4111 }
+{
     let transaction = fields::undecodable_transaction(bytes);
     match command::deserialize(bytes) {
         Ok(c) => command_decoded(c, bytes, out),
@@ -177,7 +203,14 @@ fn command_of(item: &[u8]) -> Option<SdoCommand> {
 
 // Item 4: a command is encoded into a buffer of n bytes.
 // (The front of an array, as in item 2.)
-fn command_encode(c: SdoCommand, payload: &[u8], n: u16, out: &mut impl Write) -> io::Result<()> {
+fn command_encode(
+    c: SdoCommand,
+    payload: &[u8],
+    n: u16,
+    out: &mut Output<impl Write>,
+) -> io::Result<()>
+    ensures { waits out.new ≤ waits out.old + 4111 }
+{
     let mut space = [FILL; 4096];
     let buffer = &mut space[..usize::from(n.min(MAX_BUFFER))];
     let written = command::serialize(c, payload, buffer);
@@ -185,7 +218,9 @@ fn command_encode(c: SdoCommand, payload: &[u8], n: u16, out: &mut impl Write) -
 }
 
 // The bytes of item 3, where their number is in its limit.
-fn command_bytes(item: &[u8]) -> Option<&[u8]> {
+fn command_bytes(item: &[u8]) -> Option<&[u8]>
+    ensures { IfSome result (λ bytes. length bytes.now ≤ 4096) }
+{
     let n: u16 = octets::number_at(item, 1);
     (n <= MAX_COMMAND).then_some(octets::part(item, 3, usize::from(n)))
 }
@@ -199,7 +234,9 @@ fn encoding_of(item: &[u8]) -> Option<(&[u8], u16)> {
 }
 
 // Plays an item, and answers whether it is one that is known.
-fn play(item: &[u8], out: &mut impl Write) -> io::Result<bool> {
+fn play(item: &[u8], out: &mut Output<impl Write>) -> io::Result<bool>
+    ensures { waits out.new ≤ waits out.old + 4111 }
+{
     let Ok(kind) = Item::try_from(octets::byte_at(item, 0)) else {
         return Ok(false);
     };
@@ -225,7 +262,7 @@ fn play(item: &[u8], out: &mut impl Write) -> io::Result<bool> {
 // The codecs' player, with where it writes.
 #[derive(Drop)]
 struct Codec<W> {
-    out: W,
+    out: Output<W>,
 }
 
 impl<W: Write> Player for Codec<W> {
@@ -234,17 +271,22 @@ impl<W: Write> Player for Codec<W> {
     }
 
     fn play(&mut self, item: &[u8]) -> io::Result<bool> {
-        play(item, &mut self.out)
+        let known = play(item, &mut self.out)?;
+        self.out.reserve(ROOM)?;
+        Ok(known)
     }
 }
 
 // Plays the input as far as it goes, and answers where it ended.
-// (`replay`'s player has buffers more, and an output of another size.)
-fn played(rt: &(impl Input + Print + AllocGlobal)) -> io::Result<Window> {
+// (`replay`'s player has buffers more, and an input of another size.)
+fn played(rt: &(impl Input + Print)) -> io::Result<Window>
+    ensures { IfOk result (λ w. Within w 65536) }
+{
     let mut input = [0; INPUT];
     let mut reader = rt.reader();
-    let out = BufWriter::new(rt.alloc(), io::writer(rt))?;
-    let mut codec = Codec { out };
+    let mut codec = Codec {
+        out: Output::new(io::writer(rt)),
+    };
     let window = input::played(&mut reader, &mut input, &mut codec)?;
     codec.out.flush()?;
     Ok(window)
@@ -254,7 +296,8 @@ fn played(rt: &(impl Input + Print + AllocGlobal)) -> io::Result<Window> {
 // (`replay` ends alike: a shared end would be a public function of which no contract can say what it writes to standard error.)
 fn main(rt: HostRuntime) -> io::Result<()> {
     let Ok(window) = played(&rt) else {
-        return eprintln!(rt; "codec: the transcript cannot be written");
+        let _ = eprintln!(rt; "codec: the transcript cannot be written");
+        return Ok(());
     };
     if window.start < window.end {
         let at = window.at;

@@ -1,11 +1,15 @@
 -- How far a run is. "The script ends at the end of the file. An item that is cut short, has another number, … ends the run: a line … names the byte at which the item begins (the first is 0)".
-use Rattle.std.specs.Prelude.{ℕ, ◌+◌, ◌-◌, ◌%◌, ◌^◌, Bool, true, false, List, ◌++◌, length, take, drop, nat_lt}
+use Rattle.std.specs.Prelude.{ℕ, ◌+◌, ◌-◌, ◌%◌, ◌^◌, ◌≤◌, Bool, true, false, List, ◌++◌, length, take, drop, nat_lt}
 use Rattle.picks.specs.Pick.{pick}
 use Rattle.input.specs.declared.Window.{Window}
 
 -- nothing is read yet, and the first item begins at byte 0
 abbrev pub at_start : Window
 at_start = record { start = 0; end = 0; at = 0; going = true }
+
+-- how far a run is lies within a buffer of n bytes
+abbrev pub Within : Window → ℕ → Type 0
+Within w n = (w.start ≤ w.end) × (w.end ≤ n)
 
 -- the input buffer's bytes from start to end
 unfoldable pub unplayed_of : List ℕ → Window → List ℕ

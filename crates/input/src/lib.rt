@@ -3,12 +3,12 @@
 
 ghost use Rattle.std.specs.Prelude.{◌≡◌, ℕ, ◌+◌, ◌-◌, ◌≤◌, Bool, List, ◌++◌, length, take, drop, ⊤, IfOk};
 ghost use Rattle.std.specs.Io.KnownBytes.{Consumes};
-ghost use Rattle.input.specs.Runs.{at_start, unplayed_of, behind, Read, refilled_bytes, refilled_window};
+ghost use Rattle.input.specs.Runs.{at_start, unplayed_of, behind, Read, refilled_bytes, refilled_window, Within};
 ghost use Rattle.input.specs.Turns.{Run, run, Turns};
 
 use std::io;
 
-// The buffer's length.
+// The length of a buffer in which every item of a script fits.
 pub const INPUT: usize = 262144;
 
 // How far a run is. The buffer's bytes from start to end are not played yet; the first of them is byte `at` of the input.
@@ -35,7 +35,7 @@ pub fn begun() -> Window
 
 // What is not played yet, as far as it is read.
 #[tactic(auto, unfolding(crate::specs::Runs::unplayed_of))]
-pub fn unplayed(input: &[u8; INPUT], w: Window) -> &[u8]
+pub fn unplayed<const N: usize>(input: &[u8; N], w: Window) -> &[u8]
     ensures { result.now ≡ unplayed_of input.now w }
 {
     octets::part(input, w.start, w.end.saturating_sub(w.start))
@@ -80,8 +80,13 @@ fn move_to_front(input: &mut [u8], start: usize, n: usize)
 }
 
 // Moves what is not played yet to the front of the input buffer and reads once behind it. The run goes on if the read got anything.
-pub fn refilled<R: io::Read>(reader: &mut R, input: &mut [u8; INPUT], w: Window) -> Window
-    ensures { (f : Read) × (input.new ≡ refilled_bytes f input.old w) × (result ≡ refilled_window f input.old w) × (Consumes (R.remaining reader.old) (R.remaining reader.new) f.got) }
+pub fn refilled<R: io::Read, const N: usize>(
+    reader: &mut R,
+    input: &mut [u8; N],
+    w: Window,
+) -> Window
+    ensures within { Within result N }
+    ensures bytes { (f : Read) × (input.new ≡ refilled_bytes f input.old w) × (result ≡ refilled_window f input.old w) × (Consumes (R.remaining reader.old) (R.remaining reader.new) f.got) }
 {
     let n = unplayed(input, w).len();
     move_to_front(input, w.start, n);
@@ -112,12 +117,13 @@ pub trait Player {
 }
 
 // Plays the items of the input as far as it goes, and answers where that ends: each turn reads more, or plays an item. A loop has to end: it counts its turns up to a number that no run reaches.
-pub fn played<R: io::Read, P: Player>(
+pub fn played<R: io::Read, P: Player, const N: usize>(
     reader: &mut R,
-    input: &mut [u8; INPUT],
+    input: &mut [u8; N],
     player: &mut P,
 ) -> io::Result<Window>
-    ensures { IfOk result (λ w. (end : Run P) × Turns P.IsLong P.Plays (run player.old (R.remaining reader.old) input.old at_start) end × (end ≡ run player.new (R.remaining reader.new) input.new w)) }
+    ensures within { IfOk result (λ w. Within w N) }
+    ensures turns { IfOk result (λ w. (end : Run P) × Turns P.IsLong P.Plays (run player.old (R.remaining reader.old) input.old at_start) end × (end ≡ run player.new (R.remaining reader.new) input.new w)) }
 {
     let mut window = begun();
     for _ in 0..u64::MAX {

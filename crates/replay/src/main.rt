@@ -4,9 +4,11 @@
 mod transcript;
 
 use input::{INPUT, Player, Window};
+use output::Output;
 use script::{ANSWER, Done, IMAGE, LENT_AREA, Lent};
 use std::io;
-use std::io::{BufWriter, Write};
+use std::io::Write;
+use transcript::ENTRY;
 
 // The server's player: what is lent, of which buffers, and where the transcript goes.
 #[derive(Drop)]
@@ -14,7 +16,7 @@ struct Replay<W> {
     lent: Lent,
     area: [u8; LENT_AREA],
     image: [u8; IMAGE],
-    out: W,
+    out: Output<W>,
 }
 
 impl<W: Write> Player for Replay<W> {
@@ -22,7 +24,7 @@ impl<W: Write> Player for Replay<W> {
         items::length_of(bytes)
     }
 
-    // A call's part of the transcript is written.
+    // A call's part of the transcript is printed, in one piece: room for it was made before.
     fn play(&mut self, item: &[u8]) -> io::Result<bool> {
         let mut answer = [0; ANSWER];
         let played = self
@@ -33,7 +35,7 @@ impl<W: Write> Player for Replay<W> {
             Done::Unknown => return Ok(false),
             Done::Lends => {}
             Done::Calls(told) => {
-                let mut entry = [0; transcript::ENTRY];
+                let mut entry = [0; ENTRY];
                 let n = transcript::put_entry(
                     told,
                     self.lent,
@@ -43,6 +45,7 @@ impl<W: Write> Player for Replay<W> {
                     &mut entry,
                 );
                 self.out.write_all(&entry[..n])?;
+                self.out.reserve(ENTRY)?;
             }
         }
         Ok(true)
@@ -50,14 +53,14 @@ impl<W: Write> Player for Replay<W> {
 }
 
 // Plays the input as far as it goes, and answers where it ended.
-fn played(rt: &(impl Input + Print + AllocGlobal)) -> io::Result<Window> {
+fn played(rt: &(impl Input + Print)) -> io::Result<Window> {
     let mut input = [0u8; INPUT];
     let mut reader = rt.reader();
     let mut replay = Replay {
         lent: script::begun(),
         area: [0; LENT_AREA],
         image: [0; IMAGE],
-        out: BufWriter::with_capacity(rt.alloc(), 65536, io::writer(rt))?,
+        out: Output::new(io::writer(rt)),
     };
     let window = input::played(&mut reader, &mut input, &mut replay)?;
     replay.out.flush()?;
@@ -68,7 +71,8 @@ fn played(rt: &(impl Input + Print + AllocGlobal)) -> io::Result<Window> {
 // (`codec` ends alike: a shared end would be a public function of which no contract can say what it writes to standard error.)
 fn main(rt: HostRuntime) -> io::Result<()> {
     let Ok(window) = played(&rt) else {
-        return eprintln!(rt; "replay: the transcript cannot be written");
+        let _ = eprintln!(rt; "replay: the transcript cannot be written");
+        return Ok(());
     };
     if window.start < window.end {
         let at = window.at;

@@ -1,11 +1,12 @@
 -- Each branch is a turn.
+use Rattle.std.proofs.Common.{le_refl, zero-le}
 use Rattle.input.specs.Turns.Turns.{none}
 use Rattle.input.proofs.Turns.{reads_more, plays_one}
 use Rattle.input.proofs.played.Goals.{then-bytes-n, else-bytes-n+in_ok-known}
 use Rattle.input.proofs.played.Goals as goal
 
 pub loop-init : goal.loop-init
-loop-init g c = rw c.begun-window.ensures (none _)
+loop-init g c = rw c.begun-window.ensures ((le_refl 0, zero-le), none _)
 
 pub loop-preserved : goal.loop-preserved
 loop-preserved g c =
@@ -15,8 +16,8 @@ loop-preserved g c =
     elim c.if-bytes-n.branch [
       | then-bytes-n w ↦
           rw (w.player-is, w.reader-is, w.input-is, w.window-is)
-          (reads_more _ _ _ _ _ _ _ i u.result.now u.ensures n.result n.ensures _ _ _ w.if-bytes-n.true w.refilled-window.ensures)
+          (reads_more _ _ _ _ _ _ _ _ i u.result.now u.ensures n.result n.ensures _ _ _ w.refilled-window.ensures.within w.if-bytes-n.true w.refilled-window.ensures.bytes)
       | else-bytes-n+in_ok-known w ↦
           rw (w.player-is, w.reader-is, w.input-is, w.window-is)
-          (plays_one _ _ _ _ _ _ _ i u.result.now u.ensures n.result n.ensures _ _ _ _ w.if-bytes-n.false w.part.ensures (rw w.in_ok-known.was at w.play.ensures) w.passed-window.ensures)
+          (plays_one _ _ _ _ _ _ _ _ i u.result.now u.ensures n.result n.ensures _ _ _ _ w.if-bytes-n.false w.part.ensures (rw w.in_ok-known.was at w.play.ensures) w.passed-window.ensures)
     ]

@@ -14,8 +14,8 @@ read_at-got-requires g c =
     let fits : length u.result.now ≤ length a.input.now - a.w.start = rw u.ensures (unplayed_fits a.input.now a.w) in
     rw c.move_to_front.ensures (moved_fits (length u.result.now) a.w.start a.input.now fits)
 
-pub returns : goal.returns
-returns g c =
+pub returns-clause-bytes : goal.returns-clause-bytes
+returns-clause-bytes g c =
     let u = c.unplayed-n in
     let a = c.args in
     let r = c.read_at-got in
