@@ -1,7 +1,7 @@
 -- What was written stands before what waits on.
 use Rattle.std.proofs.Common.{rules}
 use Rattle.output.proofs.Known.{rest_waits}
-use Rattle.output.proofs.Output.print.Goals as goal
+use Rattle.output.proofs.Output.write_waiting.Goals as goal
 
 pub returns-clause-kept : goal.returns-clause-kept
 returns-clause-kept g c =
