@@ -85,6 +85,7 @@ impl<W: Write> Write for Output<W> {
         ensures bound { WritesAtMost result bytes.now }
         ensures count { IfOk result (λ n. n ≡ min (length bytes.now) 65536) }
         ensures bytes { WriteAppends (handed_over W.contents self.old) (handed_over W.contents self.new) result bytes.now }
+        ensures fits { waits self.old + length bytes.now ≤ 65536 → IsOk result × (self.new.to ≡ self.old.to) × (waiting self.new ≡ waiting self.old ++ bytes.now) }
         ensures more { waits self.new ≤ waits self.old + length bytes.now }
     {
         let n = bytes.len().min(OUTPUT);
