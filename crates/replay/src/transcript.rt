@@ -1,11 +1,11 @@
 // What a call leaves, as bytes of the transcript: oracle/REPLAY.md has the format.
-ghost use Rattle.std.specs.Prelude.{◌+◌, ◌≤◌, length};
+ghost use Rattle.std.specs.Prelude.{◌+◌, ◌<◌, ◌≤◌, length};
 
 use protocol::Answered;
 use script::told::Told;
 use script::{ANSWER, Lent, told};
 
-// The prime of Adler-32, and how many bytes are summed up between two remainders: so few that no sum wraps.
+// The prime of Adler-32, and how many bytes are summed up between two remainders.
 const PRIME: u64 = 65521;
 
 const BLOCK: usize = 4096;
@@ -13,19 +13,38 @@ const BLOCK: usize = 4096;
 // The length of the longest entry, with an answer that fills its buffer.
 pub const ENTRY: usize = 1940;
 
+// The two sums of Adler-32.
+#[derive(Clone, Copy)]
+struct Sums {
+    bytes: u64,
+    sums: u64,
+}
+
+// The sums with a block's bytes taken in: so few that no sum overflows.
+fn with_block(block: &[u8], before: Sums) -> Sums
+    requires few { length block.now ≤ 4096 }
+    requires remainders { (before.bytes < 65521) × (before.sums < 65521) }
+    ensures { (result.bytes < 65521) × (result.sums < 65521) }
+{
+    let mut bytes = before.bytes;
+    let mut sums = before.sums;
+    for byte in block {
+        bytes += u64::from(*byte);
+        sums += bytes;
+    }
+    Sums {
+        bytes: bytes % PRIME,
+        sums: sums % PRIME,
+    }
+}
+
 // Adler-32 of these bytes.
 fn adler(s: &[u8]) -> u32 {
-    let mut bytes = 1u64;
-    let mut sums = 0u64;
+    let mut sums = Sums { bytes: 1, sums: 0 };
     for block in s.chunks(BLOCK) {
-        for byte in block {
-            bytes = bytes.wrapping_add(u64::from(*byte));
-            sums = sums.wrapping_add(bytes);
-        }
-        bytes %= PRIME;
-        sums %= PRIME;
+        sums = with_block(block, sums);
     }
-    (sums * 65536 + bytes) as u32
+    (sums.sums * 65536 + sums.bytes) as u32
 }
 
 // Bytes go to the buffer from a place on, as far as it goes; answers the place behind them.

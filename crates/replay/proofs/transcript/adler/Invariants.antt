@@ -3,4 +3,4 @@ use Rattle.std.proofs.Common.{◌<◌}
 use Rattle.replay.proofs.transcript.adler.Given as goal
 
 abbrev pub invariant-loop-block : goal.invariant-loop-block
-invariant-loop-block l = (l.bytes < 65521) × (l.sums < 65521)
+invariant-loop-block l = (l.sums.bytes < 65521) × (l.sums.sums < 65521)
