@@ -119,9 +119,8 @@ fn mark(rt: &(impl Input + Print + Eprint), e: Exercise) -> io::Result<()> {
 
 fn main(rt: HostRuntime) -> io::Result<()> {
     let Some(exercise) = exercise::of_arguments(&rt) else {
-        eprintln!(rt; "usage: mark [INDEX SUB LENGTH] < RECORDING")?;
         return eprintln!(rt;
-            "INDEX in hex, SUB (at most 255) and LENGTH in decimal; by default 2110 0 4096"
+            "usage: mark [INDEX SUB LENGTH] < RECORDING\nINDEX in hex, SUB (at most 255) and LENGTH in decimal; by default 2110 0 4096"
         );
     };
     mark(&rt, exercise)
