@@ -17,6 +17,9 @@ use std::io::Write;
 // What every byte of a lent buffer is before a call.
 const FILL: u8 = 0xA5;
 
+// A buffer before a call.
+const FRESH: [u8; 4096] = [FILL; 4096];
+
 // The limits of an item's lengths.
 const MAX_COMMAND: u16 = 4096;
 
@@ -129,7 +132,8 @@ fn encoding(
             out.write_all(buffer)
         }
         Err(BufferTooShort) => {
-            let same = buffer.iter().all(|b| *b == FILL);
+            // (As slices: byte by byte it takes twice the time.)
+            let same = buffer == octets::part(&FRESH, 0, buffer.len());
             out.write_all(&[1, u8::from(same)])
         }
     }
@@ -164,13 +168,27 @@ fn command_decoded(c: SdoCommand, bytes: &[u8], out: &mut Output<impl Write>) ->
 {
     let h = c.header;
     let payload = command::payload(h, bytes);
-    let flags = [0, h.transaction, u8::from(h.response), u8::from(h.aborted)];
-    out.write_all(&flags)?;
-    out.write_all(&[u8::from(h.segmentation), u8::from(h.id)])?;
-    out.write_all(&h.size.to_le_bytes())?;
-    out.write_all(&[u8::from(c.total.is_some())])?;
-    out.write_all(&c.total.unwrap_or(0).to_le_bytes())?;
-    put_count(payload.len(), 2, out)?;
+    let [size, size_high] = h.size.to_le_bytes();
+    let [t0, t1, t2, t3] = c.total.unwrap_or(0).to_le_bytes();
+    let [count, count_high, ..] = (payload.len() as u64).to_le_bytes();
+    // (In one array: written field by field they take twice the time.)
+    out.write_all(&[
+        0,
+        h.transaction,
+        u8::from(h.response),
+        u8::from(h.aborted),
+        u8::from(h.segmentation),
+        u8::from(h.id),
+        size,
+        size_high,
+        u8::from(c.total.is_some()),
+        t0,
+        t1,
+        t2,
+        t3,
+        count,
+        count_high,
+    ])?;
     out.write_all(payload)
 }
 
