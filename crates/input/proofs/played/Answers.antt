@@ -1,7 +1,7 @@
 -- Each branch is a turn.
 use Rattle.std.proofs.Common.{le_refl, zero-le}
 use Rattle.input.specs.Turns.Turns.{none}
-use Rattle.input.proofs.Turns.{reads_more, plays_one}
+use Rattle.input.proofs.Turns.{reads_more, plays_one, passed_within}
 use Rattle.input.proofs.played.Goals.{then-bytes-n, else-bytes-n+in_ok-known}
 use Rattle.input.proofs.played.Goals as goal
 
@@ -16,8 +16,10 @@ loop-preserved g c =
     elim c.if-bytes-n.branch [
       | then-bytes-n w ↦
           rw (w.player-is, w.reader-is, w.input-is, w.window-is)
-          (reads_more _ _ _ _ _ _ _ _ i u.result.now u.ensures n.result n.ensures _ _ _ w.refilled-window.ensures.within w.if-bytes-n.true w.refilled-window.ensures.bytes)
+          (w.refilled-window.ensures.within, reads_more _ _ _ _ _ _ _ i.1 u.result.now u.ensures n.result n.ensures _ _ _ w.if-bytes-n.true w.refilled-window.ensures.bytes)
       | else-bytes-n+in_ok-known w ↦
-          rw (w.player-is, w.reader-is, w.input-is, w.window-is)
-          (plays_one _ _ _ _ _ _ _ _ i u.result.now u.ensures n.result n.ensures _ _ _ _ w.if-bytes-n.false w.part.ensures (rw w.in_ok-known.was at w.play.ensures) w.passed-window.ensures)
+          rw (w.player-is, w.reader-is, w.input-is, w.window-is) (
+            passed_within _ _ _ i.0 u.result.now u.ensures n.result w.if-bytes-n.false _ _ w.passed-window.ensures,
+            plays_one _ _ _ _ _ _ _ i.1 u.result.now u.ensures n.result n.ensures _ _ _ _ w.if-bytes-n.false w.part.ensures (rw w.in_ok-known.was at w.play.ensures) w.passed-window.ensures,
+          )
     ]
