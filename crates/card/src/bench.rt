@@ -205,7 +205,8 @@ fn part_of<'a>(object: &'a [u8], text: &str) -> &'a [u8] {
 impl<P: Print> Card<'_, P> {
     // What is given with a call.
     fn say_given(&self, call: Call) -> io::Result<()> {
-        print!(self.rt; "{}\n            given ", call.what)?;
+        print!(self.rt; "{}", call.what)?;
+        print!(self.rt; "\n            given ")?;
         print_laid(self.rt, |page| show::put_start(page, 0, call.bytes, 24))?;
         println!(self.rt; "")
     }
@@ -221,7 +222,8 @@ impl<P: Print> Card<'_, P> {
             Ok(None) => print!(self.rt; " nothing")?,
             Err(refusal) => print!(self.rt; " refused with {}", u8::from(refusal))?,
         }
-        println!(self.rt; "; {}", came.left)
+        print!(self.rt; "; {}", came.left)?;
+        println!(self.rt; "")
     }
 
     // The end of a call's row: what came and, where that is something else, what was due.

@@ -111,11 +111,17 @@ impl<P: Print> Card<'_, P> {
         self.say(Row { given: "", ..row }, &[came])
     }
 
+    // A heading.
+    fn heading(&self, line: &str) -> io::Result<()> {
+        print!(self.rt; "{line}")?;
+        println!(self.rt; "")
+    }
+
     // A line: a letter for what is done, then what is printed, what is given and what should come. One without bars is a heading.
     // (A letter is read here alone: an enum of the letters would be matched once to be made, and here once more.)
     fn line_row(&mut self, line: &str) -> io::Result<()> {
         let Some((what, rest)) = line.split_once('|') else {
-            return println!(self.rt; "{line}");
+            return self.heading(line);
         };
         let (letter, what) = what.split_once(' ').unwrap_or((what, ""));
         let (given, expected) = rest.split_once('|').unwrap_or((rest, ""));
@@ -132,7 +138,7 @@ impl<P: Print> Card<'_, P> {
             "X" => self.answer_row(ABORT, row),
             "C" => self.command_read_row(row),
             "I" => self.id_row(row),
-            _ => println!(self.rt; "{line}"),
+            _ => self.heading(line),
         }
     }
 

@@ -43,8 +43,9 @@ fn print_laid<F: FnOnce(&mut [u8]) -> usize>(rt: &impl Print, lay: F) -> io::Res
 impl<P: Print> Card<'_, P> {
     // The rows that are calls.
     fn call_rows(&mut self) -> io::Result<()> {
-        print!(self.rt; "Bench card: the rows that are calls. ")?;
-        println!(self.rt; "The whole answer buffer is compared,")?;
+        println!(self.rt;
+            "Bench card: the rows that are calls. The whole answer buffer is compared,"
+        )?;
         println!(self.rt;
             "with the records in use and the image; long frames are printed in part."
         )?;

@@ -68,11 +68,15 @@ impl<'a, P: Print> Card<'a, P> {
         let mut buffer = [0; 32];
         let same = came == read(expected, &mut buffer);
         self.verdict(same)?;
-        let width = WIDTH.saturating_sub(what.len());
-        print!(self.rt; "{what}{given:width$}")?;
+        let width = WIDTH.saturating_sub(what.len()).saturating_sub(given.len());
+        // (What is printed at once is one write, here and for a call: on a line that is full, what stands before it has gone out whole.)
+        print!(self.rt; "{what}")?;
+        print!(self.rt; "{given}")?;
+        print!(self.rt; "{:width$}", "")?;
         print_laid(self.rt, |page| show::put_bytes(page, 0, came))?;
         if !same {
-            print!(self.rt; "  expected{expected}")?;
+            print!(self.rt; "  expected")?;
+            print!(self.rt; "{expected}")?;
         }
         println!(self.rt; "")
     }

@@ -82,9 +82,10 @@ fn ended(input: &[u8; INPUT], window: Window) -> Option<Break> {
 fn say_title(rt: &impl Print, e: Exercise) -> io::Result<()> {
     print!(rt; "MARKED SHEET\nExercise: read ")?;
     sheet::say_object(rt, e)?;
-    println!(rt; ", to its end: {} bytes.", e.length)?;
-    print!(rt; "Each step is what a client sent and what the controller answered: ")?;
-    println!(rt; "in words, decoded, and as bytes in hex.\n")
+    println!(rt;
+        ", to its end: {} bytes.\nEach step is what a client sent and what the controller answered: in words, decoded, and as bytes in hex.\n",
+        e.length
+    )
 }
 
 // The end of the last line, where all that stands before it was written. Where something cannot be written, the sheet is not whole.

@@ -274,9 +274,11 @@ impl Sheet {
         if let Ok(Item::Table) = Item::try_from(octets::byte_at(item, 0)) {
             self.book = marking::anew(self.book);
         }
-        match lent_by(item) {
-            Some(what) => println!(rt; "(The recording sets {what})\n"),
-            None => Ok(()),
-        }
+        let Some(what) = lent_by(item) else {
+            return Ok(());
+        };
+        print!(rt; "(The recording sets ")?;
+        print!(rt; "{what})")?;
+        println!(rt; "\n")
     }
 }
