@@ -46,6 +46,14 @@ splice_splice (suc at) a b (x ∷ xs) = simp (splice_suc, suc-add, splice_splice
 splice_splice zero [] b (x ∷ xs) = simp splice_none
 splice_splice zero (y ∷ a) b (x ∷ xs) = simp (zero-add, splice_cons, splice_suc) (ap (λ (l : List ℕ). y ∷ l) (rw zero-add at (splice_splice zero a b xs)))
 
+-- a store over one that is no longer is that store alone
+pub splice_over : (at : ℕ) (a b xs : List ℕ) → length a ≤ length b → splice at b (splice at a xs) ≡ splice at b xs
+splice_over at a b [] h = simp splice_nil
+splice_over (suc at) a b (x ∷ xs) h = simp (splice_suc, splice_over at a b xs h)
+splice_over zero [] b (x ∷ xs) h = simp splice_none
+splice_over zero (y ∷ a) [] (x ∷ xs) h = absurd (omega arith)
+splice_over zero (y ∷ a) (z ∷ b) (x ∷ xs) h = simp splice_cons (ap (λ (l : List ℕ). z ∷ l) (splice_over zero a b xs (omega arith)))
+
 -- what falls outside is dropped
 pub splice_clamped : (at : ℕ) (ys xs : List ℕ) → splice at (take (length xs - at) ys) xs ≡ splice at ys xs
 splice_clamped at ys [] = simp splice_nil

@@ -124,7 +124,8 @@ pub fn number_at<T: LittleEndian<N>, const N: usize>(s: &[u8], at: usize) -> T
 }
 
 // src goes to dst from at on, as far as dst goes; every byte outside stays.
-#[tactic(auto, using(crate::proofs::Splice::store_part, crate::proofs::Splice::splice_cut, crate::proofs::Splice::splice_min))]
+// (The last two laws are of a body that stores twice, as that of the edit first_byte_repeated: with them it is refused for what it stores.)
+#[tactic(auto, using(crate::proofs::Splice::store_part, crate::proofs::Splice::splice_cut, crate::proofs::Splice::splice_min, crate::proofs::Splice::length_splice, crate::proofs::Splice::splice_over))]
 pub fn copy_at(dst: &mut [u8], at: usize, src: &[u8])
     ensures { dst.new ≡ splice at src.now dst.old }
 {

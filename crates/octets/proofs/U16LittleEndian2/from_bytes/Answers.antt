@@ -1,8 +1,8 @@
 -- The standard library's number is that of the definition.
-use mathlib.Core.Path.{◌∙◌}
 use borrow.Author.Rules.{rules}
+use native.Mathlib.Omega.{arith}
 use Rattle.octets.proofs.Little.{number_of}
 use Rattle.octets.proofs.U16LittleEndian2.from_bytes.Goals as goal
 
 pub returns : goal.returns
-returns c = c.from_le_bytes.ensures ∙ number_of 1 c.args.bytes (search rules)
+returns c = omega (arith, number_of 1 c.args.bytes (search rules))
