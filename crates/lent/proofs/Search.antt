@@ -65,7 +65,10 @@ unfolding chosen
 due_is cs k = due_from_lem 0 cs k ∙ ap (λ (n : ℕ). pick (ltb (first (is_due k) cs) (length cs)) (Some n) None) (omega arith)
 
 -- the place that was found in a table of eight is the first due record's
-pub tick_at_found : (clock : ℕ) (image answer : List ℕ) (table : List Connection) (area : List ℕ) → length table ≡ 8 → tick_at_of (place_in (due_in (chosen table clock) (length table))) clock image answer table area ≡ tick_of clock image answer table area
+pub place_found : (clock : ℕ) (table : List Connection) → length table ≡ 8 → place_in (due_in (chosen table clock) (length table)) ≡ chosen table clock
 unfolding chosen
-tick_at_found clock image answer table area l =
-    tick_at_chosen clock image answer table area _ (told_in (is_due clock) table _ l refl).0
+place_found clock table l = (told_in (is_due clock) table _ l refl).0
+
+-- and a tick that looks there is the tick
+pub tick_at_found : (clock : ℕ) (image answer : List ℕ) (table : List Connection) (area : List ℕ) → length table ≡ 8 → tick_at_of (place_in (due_in (chosen table clock) (length table))) clock image answer table area ≡ tick_of clock image answer table area
+tick_at_found clock image answer table area l = tick_at_chosen clock image answer table area _ (place_found clock table l)

@@ -1,9 +1,12 @@
 -- A table of another length is refused, and all is left; else the tick looks at the record that the search found.
 use Rattle.std.proofs.Common.{ne_eqb, ◌≡◌, ◌∙◌, rules}
 use Rattle.protocol.specs.Coding.{refused}
+use Rattle.protocol.specs.ConnectionTable.{chosen}
 use Rattle.protocol.specs.Tick.{told_ticked}
+use Rattle.row.specs.Row.{place_in}
+use Rattle.server.proofs.Calls.{tick_at_chosen}
 use Rattle.lent.proofs.OtherLength.{tick_refused}
-use Rattle.lent.proofs.Search.{tick_at_found}
+use Rattle.lent.proofs.Search.{place_found}
 use Rattle.lent.proofs.tick.Goals as goal
 
 pub returns-in_err-row : goal.returns-in_err-row
@@ -14,5 +17,5 @@ returns-in_err-row c =
 
 pub returns : goal.returns
 returns c =
-    let l = c.in_ok-row.ensures.long in
-    rw c.copy_from_slice.ensures.after (c.tick_at-called.ensures ∙ (rw (c.in_ok-row.ensures.loaded, c.due_place-due.ensures) (tick_at_found _ _ _ _ _ l)))
+    let found : place_in c.due_place-due.result ≡ chosen c.args.table.now c.args.clock = rw c.due_place-due.ensures (place_found c.args.clock c.args.table.now c.in_ok-row.ensures.long) in
+    rw c.copy_from_slice.ensures.after (c.tick_at-called.ensures ∙ (rw c.in_ok-row.ensures.loaded (tick_at_chosen _ _ _ _ _ _ (search (rules, found)))))

@@ -7,4 +7,6 @@ use Rattle.row.proofs.due_place.Goals as goal
 
 pub returns : goal.returns
 unfolding chosen
-returns c = searched (is_due c.args.clock) c.args.rows.now _ _ c.position.ensures.ran (YieldsList-from_slice c.args.rows.now c.iter.ensures.rest) (λ x b q k. search rules)
+returns c =
+    let found = searched (is_due c.args.clock) c.args.rows.now _ _ c.position.ensures.ran (YieldsList-from_slice c.args.rows.now c.iter.ensures.rest) (λ x b q k. search rules) in
+    search (rules, found)
