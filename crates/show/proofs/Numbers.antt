@@ -6,7 +6,8 @@ use mathlib.Core.Path.{◌≡◌, refl, sym, ap, ◌∙◌}
 use mathlib.Core.Bool.{Bool, true, false}
 use mathlib.Core.List.{List, [], ◌∷◌, ◌++◌, append_assoc, append-nil}
 use lib.Dec.{ltb}
-use lib.ListN.{length, replicate}
+use lib.ListN.{length, take, replicate}
+use lib.Seq.{take_all}
 use borrow.Author.Tests.{lt-ltb, le-ltb}
 use Rattle.std.specs.Fmt as Fmt
 use Rattle.std.specs.Fmt.{digits_onto, sign_text_with, shown_prefix, digit_glyph, padded_integral, format_spec, char_count}
@@ -25,6 +26,10 @@ appends = record {
 
 pub decimal_same : (n : ℕ) → n < 2 ^ 64 → decimal_text n ≡ Fmt.decimal n
 decimal_same n h = decimal_from_appends decimal appends 20 n h (length-decimal-le 20 n (omega arith) (omega arith) h)
+
+-- a part that is as long as its text
+pub part_whole : (n : ℕ) (xs : List ℕ) → n ≡ length xs → take n xs ≡ xs
+part_whole n xs e = take_all n xs (omega arith)
 
 -- a zero more behind zeros
 zeros_more : (k : ℕ) → replicate {A = ℕ} k 48 ++ (48 ∷ []) ≡ 48 ∷ replicate {A = ℕ} k 48

@@ -34,7 +34,8 @@ pub fn put_hex(page: &mut [u8], at: usize, n: u64) -> usize
 }
 
 // A number in decimal.
-#[tactic(auto, using(crate::proofs::Numbers::decimal_same))]
+// (The second law is of a body that lays a part, as that of the edit last_digit_of_number: with it that is refused for what it lays.)
+#[tactic(auto, using(crate::proofs::Numbers::decimal_same, crate::proofs::Numbers::part_whole))]
 pub fn put_number(page: &mut [u8], at: usize, n: u64) -> usize
     ensures { page_at result page.new ≡ laid (page_at at page.old) (decimal_text n) }
 {
